@@ -1,0 +1,5 @@
+pub mod Outcome
+pub mod Number
+pub mod Said
+pub mod Unique
+pub mod Told

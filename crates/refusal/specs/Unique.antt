@@ -1,0 +1,75 @@
+-- No slack: number and values determine a refusal, and what is said determines an answer.
+use Prim.Native.Nat.{ℕ}
+use mathlib.Core.List.{List, [], _∷_}
+use mathlib.Core.Path.{_≡_, refl, ap, sym, _∙_}
+use mathlib.Core.Bool.{cond}
+use lib.Dec.{eqb}
+use lib.IntN.{ℤ, natAbs, pos}
+use lib.ListN.{getD}
+use Rattle.refusal.specs.Outcome.{Outcome, gave, refused}
+use Rattle.refusal.specs.Number.{numberOf, valuesOf, no}
+use Rattle.refusal.specs.Said.{saidChecked, saidNumber}
+use Rattle.refusal.specs.declared.Checked.{Checked}
+use Rattle.refusal.specs.declared.Checked.the-variants as checked
+use Rattle.refusal.specs.declared.Number.{Number}
+use Rattle.refusal.specs.declared.Number.the-variants as number
+use Rattle.refusal.specs.declared.Refusal.{Refusal}
+use Rattle.refusal.specs.declared.Refusal.the-variants.{TooShort, Version, PacketType, TooLong, Padding, Count, UnevenPadding, Time, Body, Word, ListLength, Limit, Room, Store, Least}
+
+-- the value at a place
+abbrev valueAt : List ℤ → ℕ → ℕ
+valueAt values place = natAbs (getD values place (pos 0))
+
+-- the refusal of a number and its values
+abbrev refusalOf : ℕ → List ℤ → Refusal
+refusalOf number values =
+    cond (eqb number 1) (TooShort (valueAt values 0) (valueAt values 1))
+    (cond (eqb number 2) (Version (valueAt values 0))
+    (cond (eqb number 3) (PacketType (valueAt values 0) (valueAt values 1))
+    (cond (eqb number 4) (TooLong (valueAt values 0) (valueAt values 1))
+    (cond (eqb number 5) Padding
+    (cond (eqb number 8) (Count (valueAt values 0))
+    (cond (eqb number 9) (UnevenPadding (valueAt values 0))
+    (cond (eqb number 10) (Time (valueAt values 0))
+    (cond (eqb number 11) (Body (valueAt values 0))
+    (cond (eqb number 12) (Word (valueAt values 0))
+    (cond (eqb number 13) (ListLength (valueAt values 0))
+    (cond (eqb number 14) (Limit (valueAt values 0))
+    (cond (eqb number 15) (Room (valueAt values 0) (valueAt values 1))
+    (cond (eqb number 16) (Store (valueAt values 0))
+    (Least (valueAt values 0)))))))))))))))
+
+refusal-back : (r : Refusal) → refusalOf (numberOf r) (valuesOf r) ≡ r
+refusal-back (TooShort a b) = refl
+refusal-back (Version a) = refl
+refusal-back (PacketType a b) = refl
+refusal-back (TooLong a b) = refl
+refusal-back Padding = refl
+refusal-back (Count a) = refl
+refusal-back (UnevenPadding a) = refl
+refusal-back (Time a) = refl
+refusal-back (Body a) = refl
+refusal-back (Word a) = refl
+refusal-back (ListLength a) = refl
+refusal-back (Limit a) = refl
+refusal-back (Room a b) = refl
+refusal-back (Store a) = refl
+refusal-back (Least a) = refl
+
+pub refusal-unique : (a b : Refusal) → numberOf a ≡ numberOf b → valuesOf a ≡ valuesOf b → a ≡ b
+refusal-unique a b numbers values = sym (refusal-back a) ∙ (cc) ∙ refusal-back b
+
+pub no-unique : {A : Type 0} → (a b : Refusal) → no {A = A} a ≡ no {A = A} b → a ≡ b
+no-unique a b same = refusal-unique a b (cc) (cc)
+
+pub checked-unique : (a b : Checked) → saidChecked a ≡ saidChecked b → a ≡ b
+checked-unique checked.Fine checked.Fine same = refl
+checked-unique checked.Fine (checked.No r) same = cc
+checked-unique (checked.No r) checked.Fine same = cc
+checked-unique (checked.No r) (checked.No q) same = ap checked.No (no-unique r q same)
+
+pub number-unique : (a b : Number) → saidNumber a ≡ saidNumber b → a ≡ b
+number-unique (number.Is m) (number.Is n) same = cc
+number-unique (number.Is m) (number.No r) same = cc
+number-unique (number.No r) (number.Is n) same = cc
+number-unique (number.No r) (number.No q) same = ap number.No (no-unique r q same)
