@@ -1,0 +1,6 @@
+pub mod Unknown
+pub mod Pass
+pub mod Walk
+pub mod Said
+pub mod Laws
+pub mod Unique

@@ -1,0 +1,213 @@
+// The four-byte header that every RTCP packet opens with (utils.rs): its fields, each read alone, the padding byte, and the
+// checks that a packet of a known type has to pass.
+use refusal::Checked;
+use refusal::Number;
+use refusal::Refusal;
+ghost use mathlib.Core.Path.{_≡_};
+ghost use Prim.Native.Nat.{_≤_, _<_};
+ghost use lib.ListN.{getD};
+ghost use Rattle.refusal.specs.Said.{saidChecked, saidNumber};
+ghost use Rattle.utils.specs.Header.{be16Of, versionOf, paddingBitOf, countOf, typeOf, lengthOf};
+ghost use Rattle.utils.specs.Check.{field, paddingByte, ownLength, ownPadding, checkPacket};
+ghost use Rattle.utils.specs.Said.{saidPadded};
+
+// A packet is at least its header, and at most what its length field can say.
+const SHORTEST: usize = 4;
+
+const LONGEST: usize = 262144;
+
+// The padding byte, where the padding bit is set.
+pub enum Padded {
+    Clear,
+    Byte(u8),
+    No(Refusal),
+}
+
+// The byte at a place, 0 past the end.
+pub fn byte_at(s: &[u8], at: usize) -> u8
+    ensures { λ r. ⌜ r ≡ getD (now (s .entry)) at 0 ⌝ }
+{
+    if at < s.len() { s[at] } else { 0 }
+}
+
+// A byte where a larger number is wanted.
+fn wide(byte: u8) -> usize
+    ensures { λ r. ⌜ (r ≡ byte) × (r < 256) ⌝ }
+{
+    byte as usize
+}
+
+// The big-endian number in the two bytes at a place.
+pub fn be16_at(s: &[u8], at: usize) -> usize
+    ensures { λ r. ⌜ (r ≡ be16Of (now (s .entry)) at) × (r < 65536) ⌝ }
+{
+    if at < s.len() {
+        256 * wide(byte_at(s, at)) + wide(byte_at(s, at + 1))
+    } else {
+        0
+    }
+}
+
+// The fields without a test: bytes that are missing count as 0.
+pub fn version_of(packet: &[u8]) -> u8
+    ensures { λ r. ⌜ r ≡ versionOf (now (packet .entry)) ⌝ }
+{
+    byte_at(packet, 0) / 64
+}
+
+pub fn padding_bit_of(packet: &[u8]) -> u8
+    ensures { λ r. ⌜ r ≡ paddingBitOf (now (packet .entry)) ⌝ }
+{
+    byte_at(packet, 0) / 32 % 2
+}
+
+pub fn count_of(packet: &[u8]) -> u8
+    ensures { λ r. ⌜ r ≡ countOf (now (packet .entry)) ⌝ }
+{
+    byte_at(packet, 0) % 32
+}
+
+pub fn type_of(packet: &[u8]) -> u8
+    ensures { λ r. ⌜ r ≡ typeOf (now (packet .entry)) ⌝ }
+{
+    byte_at(packet, 1)
+}
+
+pub fn length_of(packet: &[u8]) -> usize
+    ensures { λ r. ⌜ (r ≡ lengthOf (now (packet .entry))) × (4 ≤ r) × (r ≤ 262144) ⌝ }
+{
+    4 * (be16_at(packet, 2) + 1)
+}
+
+// A field's value, where the packet has its header.
+fn field_of(packet: &[u8], value: usize) -> Number
+    ensures { λ r. ⌜ saidNumber r ≡ field (now (packet .entry)) value ⌝ }
+{
+    if packet.len() < SHORTEST {
+        return Number::No(Refusal::TooShort {
+            expected: SHORTEST,
+            actual: packet.len(),
+        });
+    }
+    Number::Is(value)
+}
+
+pub fn parse_version(packet: &[u8]) -> Number
+    ensures { λ r. ⌜ saidNumber r ≡ field (now (packet .entry)) (versionOf (now (packet .entry))) ⌝ }
+{
+    field_of(packet, wide(version_of(packet)))
+}
+
+pub fn parse_padding_bit(packet: &[u8]) -> Number
+    ensures { λ r. ⌜ saidNumber r ≡ field (now (packet .entry)) (paddingBitOf (now (packet .entry))) ⌝ }
+{
+    field_of(packet, wide(padding_bit_of(packet)))
+}
+
+pub fn parse_count(packet: &[u8]) -> Number
+    ensures { λ r. ⌜ saidNumber r ≡ field (now (packet .entry)) (countOf (now (packet .entry))) ⌝ }
+{
+    field_of(packet, wide(count_of(packet)))
+}
+
+pub fn parse_packet_type(packet: &[u8]) -> Number
+    ensures { λ r. ⌜ saidNumber r ≡ field (now (packet .entry)) (typeOf (now (packet .entry))) ⌝ }
+{
+    field_of(packet, wide(type_of(packet)))
+}
+
+pub fn parse_length(packet: &[u8]) -> Number
+    ensures { λ r. ⌜ saidNumber r ≡ field (now (packet .entry)) (lengthOf (now (packet .entry))) ⌝ }
+{
+    field_of(packet, length_of(packet))
+}
+
+// The last byte of the packet that stands at the front, where its padding bit is set.
+pub fn parse_padding(packet: &[u8]) -> Padded
+    ensures { λ r. ⌜ saidPadded r ≡ paddingByte (now (packet .entry)) ⌝ }
+{
+    if packet.len() < SHORTEST {
+        return Padded::No(Refusal::TooShort {
+            expected: SHORTEST,
+            actual: packet.len(),
+        });
+    }
+    if padding_bit_of(packet) == 0 {
+        return Padded::Clear;
+    }
+    let length = length_of(packet);
+    if packet.len() < length {
+        return Padded::No(Refusal::TooShort {
+            expected: length,
+            actual: packet.len(),
+        });
+    }
+    Padded::Byte(byte_at(packet, length - 1))
+}
+
+// Whether a packet that has its header is as long as it says.
+pub fn check_length(packet: &[u8]) -> Checked
+    ensures { λ r. ⌜ saidChecked r ≡ ownLength (now (packet .entry)) ⌝ }
+{
+    let present = packet.len();
+    let length = length_of(packet);
+    if present < length {
+        return Checked::No(Refusal::TooShort {
+            expected: length,
+            actual: present,
+        });
+    }
+    if length < present {
+        return Checked::No(Refusal::TooLong {
+            expected: length,
+            actual: present,
+        });
+    }
+    Checked::Fine
+}
+
+// Whether a whole packet's padding byte can be right.
+fn check_padding(packet: &[u8]) -> Checked
+    ensures { λ r. ⌜ saidChecked r ≡ ownPadding (now (packet .entry)) ⌝ }
+{
+    if padding_bit_of(packet) == 0 {
+        return Checked::Fine;
+    }
+    if byte_at(packet, length_of(packet) - 1) == 0 {
+        return Checked::No(Refusal::Padding);
+    }
+    Checked::Fine
+}
+
+// The checks common to all packets of a known type and least length.
+pub fn check_packet(packet: &[u8], least: usize, packet_type: u8) -> Checked
+    ensures { λ r. ⌜ saidChecked r ≡ checkPacket (now (packet .entry)) least «packet_type» ⌝ }
+{
+    if least < SHORTEST {
+        return Checked::No(Refusal::Least(least));
+    }
+    if LONGEST < least {
+        return Checked::No(Refusal::Least(least));
+    }
+    if packet.len() < least {
+        return Checked::No(Refusal::TooShort {
+            expected: least,
+            actual: packet.len(),
+        });
+    }
+    let version = version_of(packet);
+    if version != 2 {
+        return Checked::No(Refusal::Version(version));
+    }
+    let actual = type_of(packet);
+    if actual != packet_type {
+        return Checked::No(Refusal::PacketType {
+            actual,
+            requested: packet_type,
+        });
+    }
+    match check_length(packet) {
+        Checked::No(r) => Checked::No(r),
+        Checked::Fine => check_padding(packet),
+    }
+}
