@@ -1,0 +1,18 @@
+-- No refusal has more than the two values that are copied.
+use Rattle.refusal.specs.Told.{two-at-most}
+use Rattle.exports.specs.Says.{saidOf}
+use borrow.Author.Needs.{needs}
+use Rattle.exports.proofs.refused.Statement.{statement}
+use Rattle.exports.proofs.refused.Tie as tie
+
+tell-requires : tie.Need-tell-requires
+tell-requires c κs = search needs
+
+returns : tie.Need-returns
+unfolding saidOf
+returns c =
+    let end = two-at-most (c .before .args .r) in
+    simp (c .tell .ensures .number, c .tell .ensures .first, c .tell .ensures .second, end 0, end 1, end 2)
+
+pub refused-spec : {M : Type 1} → statement M
+refused-spec = tie.close (tie.spec tell-requires returns)

@@ -1,0 +1,44 @@
+-- What the C interface's struct says of an outcome, and the values that each kind of answer has there.
+use Prim.Native.Nat.{ℕ}
+use mathlib.Core.List.{List, [], _∷_}
+use lib.IntN.{ℤ, pos}
+use Rattle.refusal.specs.Outcome.{Outcome, gave, refused}
+use Rattle.refusal.specs.Told.{valueBits}
+use Rattle.utils.specs.Check.{Padding, clear, byte}
+use Rattle.exports.specs.declared.Said.{Said}
+
+-- 0 for an answer, else the refusal's number
+abbrev numberSaid : Outcome (List ℤ) → ℕ
+numberSaid (gave values) = 0
+numberSaid (refused number values) = number
+
+-- the answer's or the refusal's values
+abbrev valuesSaid : Outcome (List ℤ) → List ℤ
+valuesSaid (gave values) = values
+valuesSaid (refused number values) = values
+
+-- five places, signed values in two's complement, 0 where there is no value
+abbrev five : List ℤ → List ℕ
+five values = valueBits values 0 ∷ valueBits values 1 ∷ valueBits values 2 ∷ valueBits values 3 ∷ valueBits values 4 ∷ []
+
+unfoldable pub saidOf : Outcome (List ℤ) → Said
+saidOf outcome = record { number = numberSaid outcome; values = five (valuesSaid outcome) }
+
+-- an answer by its values
+abbrev pub answered : {A : Type 0} → (A → List ℤ) → Outcome A → Outcome (List ℤ)
+answered values (gave a) = gave (values a)
+answered values (refused number refusal) = refused number refusal
+
+unfoldable pub nothing : Outcome Unit → Outcome (List ℤ)
+nothing = answered (λ _. [])
+
+unfoldable pub number : Outcome ℕ → Outcome (List ℤ)
+number = answered (λ n. pos n ∷ [])
+
+-- 0 where the bit is clear; 1, byte
+abbrev pub paddingValues : Padding → List ℤ
+paddingValues clear = pos 0 ∷ []
+paddingValues (byte b) = pos 1 ∷ pos b ∷ []
+
+unfoldable pub padding : Outcome Padding → Outcome (List ℤ)
+padding = answered paddingValues

@@ -1,0 +1,115 @@
+// The C interface, as include/bogslipper.h declares it: the proved functions under plain names, each answer a struct of
+// numbers. An export promises what the function behind it promises.
+use compound::Found;
+use refusal::Checked;
+use refusal::Number;
+use refusal::Refusal;
+use utils::Padded;
+ghost use mathlib.Core.Path.{_≡_};
+ghost use Rattle.refusal.specs.Outcome.{Outcome, gave};
+ghost use Rattle.refusal.specs.Number.{no};
+ghost use Rattle.refusal.specs.Said.{saidChecked, saidNumber};
+ghost use Rattle.utils.specs.Header.{versionOf, paddingBitOf, countOf, typeOf, lengthOf};
+ghost use Rattle.utils.specs.Check.{field, paddingByte, checkPacket};
+ghost use Rattle.utils.specs.Said.{saidPadded};
+ghost use Rattle.exports.specs.Says.{saidOf, nothing, number, padding};
+
+// Number 0 and the answer's values, or a refusal's number and its values; the rest 0.
+#[repr(C)]
+pub struct Said {
+    pub number: u64,
+    pub values: [u64; 5],
+}
+
+fn refused(r: Refusal) -> Said
+    ensures { λ s. ⌜ s ≡ saidOf (no r) ⌝ }
+{
+    let told = refusal::tell(r);
+    Said {
+        number: told.number,
+        values: [told.first, told.second, 0, 0, 0],
+    }
+}
+
+fn said_checked(answer: Checked) -> Said
+    ensures { λ s. ⌜ s ≡ saidOf (nothing (saidChecked answer)) ⌝ }
+{
+    match answer {
+        Checked::Fine => Said {
+            number: 0,
+            values: [0, 0, 0, 0, 0],
+        },
+        Checked::No(r) => refused(r),
+    }
+}
+
+fn said_number(answer: Number) -> Said
+    ensures { λ s. ⌜ s ≡ saidOf (number (saidNumber answer)) ⌝ }
+{
+    match answer {
+        Number::Is(n) => Said {
+            number: 0,
+            values: [n as u64, 0, 0, 0, 0],
+        },
+        Number::No(r) => refused(r),
+    }
+}
+
+#[no_mangle]
+pub extern "C" fn bog_version(packet: &[u8]) -> Said
+    ensures { λ s. ⌜ s ≡ saidOf (number (field (now (packet .entry)) (versionOf (now (packet .entry))))) ⌝ }
+{
+    said_number(utils::parse_version(packet))
+}
+
+#[no_mangle]
+pub extern "C" fn bog_padding_bit(packet: &[u8]) -> Said
+    ensures { λ s. ⌜ s ≡ saidOf (number (field (now (packet .entry)) (paddingBitOf (now (packet .entry))))) ⌝ }
+{
+    said_number(utils::parse_padding_bit(packet))
+}
+
+#[no_mangle]
+pub extern "C" fn bog_count(packet: &[u8]) -> Said
+    ensures { λ s. ⌜ s ≡ saidOf (number (field (now (packet .entry)) (countOf (now (packet .entry))))) ⌝ }
+{
+    said_number(utils::parse_count(packet))
+}
+
+#[no_mangle]
+pub extern "C" fn bog_packet_type(packet: &[u8]) -> Said
+    ensures { λ s. ⌜ s ≡ saidOf (number (field (now (packet .entry)) (typeOf (now (packet .entry))))) ⌝ }
+{
+    said_number(utils::parse_packet_type(packet))
+}
+
+#[no_mangle]
+pub extern "C" fn bog_length(packet: &[u8]) -> Said
+    ensures { λ s. ⌜ s ≡ saidOf (number (field (now (packet .entry)) (lengthOf (now (packet .entry))))) ⌝ }
+{
+    said_number(utils::parse_length(packet))
+}
+
+#[no_mangle]
+pub extern "C" fn bog_padding(packet: &[u8]) -> Said
+    ensures { λ s. ⌜ s ≡ saidOf (padding (paddingByte (now (packet .entry)))) ⌝ }
+{
+    match utils::parse_padding(packet) {
+        Padded::Clear => Said {
+            number: 0,
+            values: [0, 0, 0, 0, 0],
+        },
+        Padded::Byte(byte) => Said {
+            number: 0,
+            values: [1, byte as u64, 0, 0, 0],
+        },
+        Padded::No(r) => refused(r),
+    }
+}
+
+#[no_mangle]
+pub extern "C" fn bog_check_packet(packet: &[u8], least: u64, packet_type: u8) -> Said
+    ensures { λ s. ⌜ s ≡ saidOf (nothing (checkPacket (now (packet .entry)) least «packet_type»)) ⌝ }
+{
+    said_checked(utils::check_packet(packet, least as usize, packet_type))
+}

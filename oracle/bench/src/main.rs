@@ -1,0 +1,87 @@
+//! Measures our library over its C interface beside the Rust crate, row by row, in one run.
+
+mod compound;
+mod nack;
+mod row;
+mod twcc_read;
+mod twcc_write;
+
+use std::process::ExitCode;
+
+use row::{Row, Side};
+
+/// A part: its name and its rows.
+type Part = (&'static str, fn() -> Vec<Row>);
+
+const PARTS: &[Part] = &[
+    ("compound", compound::rows),
+    ("nack", nack::rows),
+    ("twcc_read", twcc_read::rows),
+    ("twcc_write", twcc_write::rows),
+];
+
+const HELP: &str = "\
+bench                    all rows as Markdown tables, one a part
+bench --only PART        the rows of one part
+bench --rows             the names of the rows
+bench --count ROW SIDE N one row on one side (ours, rust) N times, for a tool that counts instructions";
+
+fn main() -> ExitCode {
+    let words: Vec<String> = std::env::args().skip(1).collect();
+    let words: Vec<&str> = words.iter().map(String::as_str).collect();
+    match obey(&words) {
+        Ok(()) => ExitCode::SUCCESS,
+        Err(message) => {
+            eprintln!("bench: {message}\n{HELP}");
+            ExitCode::from(2)
+        }
+    }
+}
+
+fn obey(words: &[&str]) -> Result<(), String> {
+    match words {
+        [] => PARTS.iter().for_each(measure),
+        ["--only", name] => {
+            let part = PARTS.iter().find(|(part, _)| part == name);
+            measure(part.ok_or(format!("no part is called {name}"))?);
+        }
+        ["--rows"] => all_rows().for_each(|row| println!("{}", row.name)),
+        ["--count", name, side, times] => {
+            let row = all_rows().find(|row| row.name == *name);
+            let row = row.ok_or(format!("no row is called {name}"))?;
+            let times = times
+                .parse()
+                .map_err(|_| format!("not a whole number: {times}"))?;
+            row.run(side_called(side)?, times);
+        }
+        ["--help"] => println!("{HELP}"),
+        _ => return Err(format!("unknown words: {}", words.join(" "))),
+    }
+    Ok(())
+}
+
+fn side_called(name: &str) -> Result<Side, String> {
+    match name {
+        "ours" => Ok(Side::Ours),
+        "rust" => Ok(Side::Rust),
+        _ => Err(format!("no side is called {name}")),
+    }
+}
+
+fn all_rows() -> impl Iterator<Item = Row> {
+    PARTS.iter().flat_map(|(_, rows)| rows())
+}
+
+fn measure((name, rows): &Part) {
+    println!("| {name} | ours, ns | Rust, ns | ours / Rust |");
+    println!("|---|---:|---:|---:|");
+    for row in rows() {
+        let (ours, rust) = row.measure();
+        println!(
+            "| {} | {ours:.1} | {rust:.1} | {:.2} |",
+            row.name,
+            ours / rust
+        );
+    }
+    println!();
+}

@@ -1,0 +1,306 @@
+//! What every part uses: the books of cases and disagreements, lent memory with guards, and the Rust crate's words in ours.
+
+use std::collections::BTreeMap;
+use std::fmt::{self, Write};
+use std::panic::{catch_unwind, set_hook, take_hook, AssertUnwindSafe};
+
+use ours::{Random, Said};
+use rtcp_types::RtcpParseError;
+
+/// How much a run does, and from which seed.
+pub struct Effort {
+    pub cases: u64,
+    pub seed: u64,
+}
+
+impl Effort {
+    /// The count of random cases: the one asked for, and at least the part's own.
+    pub fn at_least(&self, own: u64) -> u64 {
+        self.cases.max(own)
+    }
+
+    pub fn random(&self) -> Random {
+        Random::new(self.seed)
+    }
+}
+
+/// What our call has to say, and the listed difference that parts it from the Rust, if one does.
+#[derive(Clone, Copy)]
+pub struct Expected {
+    pub said: Said,
+    pub difference: Option<&'static str>,
+}
+
+impl Expected {
+    /// The document decides, and the Rust says something else.
+    pub fn differing(name: &'static str, said: Said) -> Self {
+        Expected {
+            said,
+            difference: Some(name),
+        }
+    }
+
+    /// Whether an answer is expected; otherwise every lent byte has to stay.
+    pub fn is_answer(&self) -> bool {
+        self.said.number == 0
+    }
+}
+
+impl From<Said> for Expected {
+    fn from(said: Said) -> Self {
+        Expected {
+            said,
+            difference: None,
+        }
+    }
+}
+
+/// What one call of ours did: its words, and the first wrong place of the lent memory.
+pub struct Seen {
+    pub said: Said,
+    pub wrong_place: Option<isize>,
+}
+
+/// The book of one call.
+pub struct Book {
+    call: &'static str,
+    cases: u64,
+    disagreements: u64,
+    differences: BTreeMap<&'static str, u64>,
+    smallest: Vec<(usize, String)>,
+}
+
+/// How many disagreements a book keeps to show: those with the smallest inputs.
+const SHOWN: usize = 4;
+
+impl Book {
+    pub fn new(call: &'static str) -> Self {
+        Book {
+            call,
+            cases: 0,
+            disagreements: 0,
+            differences: BTreeMap::new(),
+            smallest: Vec::new(),
+        }
+    }
+
+    /// Enters one case; `size` orders the inputs and `describe` writes one down if it is needed.
+    pub fn enter(
+        &mut self,
+        expected: impl Into<Expected>,
+        seen: Seen,
+        size: usize,
+        describe: impl FnOnce() -> String,
+    ) {
+        let expected = expected.into();
+        self.cases += 1;
+        if let Some(name) = expected.difference {
+            *self.differences.entry(name).or_default() += 1;
+        }
+        if seen.said == expected.said && seen.wrong_place.is_none() {
+            return;
+        }
+        self.disagreements += 1;
+        if self.smallest.len() == SHOWN && self.smallest[SHOWN - 1].0 <= size {
+            return;
+        }
+        let memory = match seen.wrong_place {
+            Some(place) => format!("; lent memory is wrong from place {place}"),
+            None => String::new(),
+        };
+        let text = format!(
+            "{}\n      ours     {}{memory}\n      expected {}",
+            describe(),
+            words(&seen.said),
+            words(&expected.said)
+        );
+        let place = self.smallest.partition_point(|(other, _)| *other <= size);
+        self.smallest.insert(place, (size, text));
+        self.smallest.truncate(SHOWN);
+    }
+
+    pub fn cases(&self) -> u64 {
+        self.cases
+    }
+
+    pub fn disagreements(&self) -> u64 {
+        self.disagreements
+    }
+}
+
+impl fmt::Display for Book {
+    fn fmt(&self, f: &mut fmt::Formatter<'_>) -> fmt::Result {
+        write!(
+            f,
+            "{:<16} {:>10} {:>13}",
+            self.call, self.cases, self.disagreements
+        )?;
+        let mut lead = "  ";
+        for (name, times) in &self.differences {
+            write!(f, "{lead}{name}: {times}")?;
+            lead = "; ";
+        }
+        for (_, text) in &self.smallest {
+            write!(f, "\n    {text}")?;
+        }
+        Ok(())
+    }
+}
+
+fn words(said: &Said) -> String {
+    let kind = match said.number {
+        0 => "answer".to_string(),
+        number => format!("refusal {number}"),
+    };
+    format!("{kind} {:?}", said.values)
+}
+
+/// Bytes in hex for a reader, cut short where there are very many.
+pub fn hex(bytes: &[u8]) -> String {
+    const MOST: usize = 96;
+    let mut text = String::new();
+    for byte in bytes.iter().take(MOST) {
+        write!(text, "{byte:02X} ").expect("a string takes all");
+    }
+    match bytes.len() {
+        0 => "no bytes".to_string(),
+        length if length > MOST => format!("{text}.. ({length} bytes)"),
+        _ => text.trim_end().to_string(),
+    }
+}
+
+/// The first numbers of a list for a reader.
+pub fn few<T: fmt::Debug>(numbers: &[T]) -> String {
+    const MOST: usize = 40;
+    match numbers.len() {
+        length if length > MOST => format!("{:?} .. ({length} in all)", &numbers[..MOST]),
+        _ => format!("{numbers:?}"),
+    }
+}
+
+/// An element of lent memory that can be filled with anything.
+pub trait Element: Copy + PartialEq {
+    fn any(random: &mut Random) -> Self;
+}
+
+impl Element for u8 {
+    fn any(random: &mut Random) -> Self {
+        random.number() as u8
+    }
+}
+
+impl Element for u16 {
+    fn any(random: &mut Random) -> Self {
+        random.number() as u16
+    }
+}
+
+impl Element for i32 {
+    fn any(random: &mut Random) -> Self {
+        random.number() as i32
+    }
+}
+
+/// Memory to lend: a part in the middle, with guards of random contents on both sides.
+pub struct Lent<T> {
+    front: usize,
+    length: usize,
+    before: Vec<T>,
+    after: Vec<T>,
+}
+
+impl<T: Element> Lent<T> {
+    /// A part that holds the contents given.
+    pub fn holding(random: &mut Random, contents: &[T]) -> Self {
+        let front = 16 + random.below(8) as usize;
+        let back = 16;
+        let mut before = Vec::with_capacity(front + contents.len() + back);
+        before.extend((0..front).map(|_| T::any(random)));
+        before.extend_from_slice(contents);
+        before.extend((0..back).map(|_| T::any(random)));
+        Lent {
+            front,
+            length: contents.len(),
+            after: before.clone(),
+            before,
+        }
+    }
+
+    /// A part of that length with random contents.
+    pub fn anything(random: &mut Random, length: usize) -> Self {
+        let contents: Vec<T> = (0..length).map(|_| T::any(random)).collect();
+        Lent::holding(random, &contents)
+    }
+
+    pub fn part(&self) -> &[T] {
+        &self.after[self.front..self.front + self.length]
+    }
+
+    pub fn part_mut(&mut self) -> &mut [T] {
+        &mut self.after[self.front..self.front + self.length]
+    }
+
+    /// The first place, counted from the part's start, that holds neither `answer` nor what it held before.
+    pub fn wrong_place(&self, answer: &[T]) -> Option<isize> {
+        let end = self.front + answer.len();
+        let kept = self.after[..self.front] == self.before[..self.front]
+            && self.after[self.front..end] == *answer
+            && self.after[end..] == self.before[end..];
+        if kept {
+            return None;
+        }
+        let wanted = self.before[..self.front]
+            .iter()
+            .chain(answer)
+            .chain(&self.before[end..]);
+        let place = self
+            .after
+            .iter()
+            .zip(wanted)
+            .position(|(is, was)| is != was);
+        place.map(|place| place as isize - self.front as isize)
+    }
+
+    /// The first place that changed.
+    pub fn changed_place(&self) -> Option<isize> {
+        self.wrong_place(&[])
+    }
+}
+
+/// A call of ours that only reads: what it says, and whether its input stayed.
+pub fn read_only(random: &mut Random, data: &[u8], call: impl FnOnce(&[u8]) -> Said) -> Seen {
+    let lent = Lent::holding(random, data);
+    let said = call(lent.part());
+    Seen {
+        said,
+        wrong_place: lent.changed_place(),
+    }
+}
+
+/// The Rust's result, or nothing where it panics; its panic is an outcome to look at, not a text to print.
+pub fn unless_it_panics<T>(call: impl FnOnce() -> T) -> Option<T> {
+    let loud = take_hook();
+    set_hook(Box::new(|_| ()));
+    let result = catch_unwind(AssertUnwindSafe(call)).ok();
+    set_hook(loud);
+    result
+}
+
+/// A refusal to read, in document 01's numbers.
+pub fn refused_reading(error: RtcpParseError) -> Said {
+    let wide = |number: usize| number as u64;
+    match error {
+        RtcpParseError::Truncated { expected, actual } => {
+            Said::refusal(1, &[wide(expected), wide(actual)])
+        }
+        RtcpParseError::UnsupportedVersion(version) => Said::refusal(2, &[version.into()]),
+        RtcpParseError::PacketTypeMismatch { actual, requested } => {
+            Said::refusal(3, &[actual.into(), requested.into()])
+        }
+        RtcpParseError::TooLarge { expected, actual } => {
+            Said::refusal(4, &[wide(expected), wide(actual)])
+        }
+        RtcpParseError::InvalidPadding => Said::refusal(5, &[]),
+        other => unreachable!("no call compared here says {other:?}"),
+    }
+}

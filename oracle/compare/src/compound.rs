@@ -1,0 +1,428 @@
+//! Compounds, packets of any type, the walk from any offset and the plain packet writer.
+
+use ours::{Random, Said};
+use rtcp_types::prelude::*;
+use rtcp_types::{Compound, Packet, RtcpWriteError, Unknown, UnknownBuilder};
+
+use crate::case::{hex, read_only, refused_reading, Book, Effort, Expected, Lent, Seen};
+
+pub fn compare(effort: &Effort) -> Vec<Book> {
+    let mut readers = Readers {
+        random: effort.random(),
+        compound: Book::new("compound_parse"),
+        unknown: Book::new("unknown_parse"),
+        step: Book::new("walk_step"),
+        walk: Book::new("walk, whole"),
+    };
+    read_fixed_compounds(&mut readers);
+    read_short_inputs(&mut readers);
+    read_damaged_compounds(&mut readers);
+    read_random_compounds(&mut readers, effort);
+    let Readers {
+        compound,
+        unknown,
+        step,
+        walk,
+        ..
+    } = readers;
+    vec![compound, unknown, step, walk, compare_write(effort)]
+}
+
+/// The calls that read a compound, each with its book.
+struct Readers {
+    random: Random,
+    compound: Book,
+    unknown: Book,
+    step: Book,
+    walk: Book,
+}
+
+impl Readers {
+    /// All calls on the same data.
+    fn read(&mut self, data: &[u8]) {
+        let random = &mut self.random;
+        let seen = read_only(random, data, ours::compound_parse);
+        let expected = expected_compound(data);
+        self.compound
+            .enter(expected, seen, data.len(), || hex(data));
+        let seen = read_only(random, data, ours::unknown_parse);
+        let expected = expected_unknown(data);
+        self.unknown.enter(expected, seen, data.len(), || hex(data));
+        self.walk(data);
+    }
+
+    /// The walk from 0, where the crate's iterator has an answer for it.
+    fn walk(&mut self, data: &[u8]) {
+        let Ok(compound) = Compound::parse(data) else {
+            return;
+        };
+        let mut offset = 0;
+        let mut over = false;
+        for packet in compound {
+            let expected = match packet {
+                Ok(Packet::Unknown(packet)) => {
+                    let length = packet.data().len() as u64;
+                    Said::answer(&[0, offset + length, offset, length])
+                }
+                Err(error) if !of_known_type(data, offset) => refused_reading(error),
+                _ => return,
+            };
+            over = expected.number != 0;
+            let seen = read_only(&mut self.random, data, |data| ours::walk_step(data, offset));
+            self.walk.enter(expected, seen, data.len(), || {
+                format!("offset {offset} of {}", hex(data))
+            });
+            offset = expected.values[1];
+        }
+        if !over {
+            let seen = read_only(&mut self.random, data, |data| ours::walk_step(data, offset));
+            let expected = Said::answer(&[1, data.len() as u64]);
+            self.walk.enter(expected, seen, data.len(), || {
+                format!("offset {offset} of {}", hex(data))
+            });
+        }
+    }
+
+    /// One step from any offset.
+    fn step(&mut self, data: &[u8], offset: u64) {
+        let seen = read_only(&mut self.random, data, |data| ours::walk_step(data, offset));
+        self.step
+            .enter(expected_step(data, offset), seen, data.len(), || {
+                format!("offset {offset} of {}", hex(data))
+            });
+    }
+
+    /// One step from every offset inside, some past the end, and some near the largest.
+    fn step_from_everywhere(&mut self, data: &[u8]) {
+        let end = data.len() as u64;
+        for offset in (0..=end + 5)
+            .chain(u64::MAX - 8..=u64::MAX)
+            .chain([1 << 63])
+        {
+            self.step(data, offset);
+        }
+    }
+}
+
+/// The crate reads the types 200 to 207 as packets of their own kinds.
+fn of_known_type(data: &[u8], offset: u64) -> bool {
+    (200..=207).contains(&data[offset as usize + 1])
+}
+
+fn expected_compound(data: &[u8]) -> Said {
+    match Compound::parse(data) {
+        Ok(_) => Said::answer(&[]),
+        Err(error) => refused_reading(error),
+    }
+}
+
+fn expected_unknown(data: &[u8]) -> Said {
+    match Unknown::parse(data) {
+        Ok(_) => Said::answer(&[]),
+        Err(error) => refused_reading(error),
+    }
+}
+
+/// Document 01's walk step, line by line; the packet itself is read as the crate's `Unknown`.
+fn expected_step(data: &[u8], offset: u64) -> Said {
+    let end = data.len() as u64;
+    if offset >= end {
+        return Said::answer(&[1, end]);
+    }
+    let rest = &data[offset as usize..];
+    let &[_, _, high, low, ..] = rest else {
+        return Said::refusal(1, &[offset + 4, end]);
+    };
+    let length = 4 * (u64::from(u16::from_be_bytes([high, low])) + 1);
+    if end - offset < length {
+        return Said::refusal(1, &[offset + length, end]);
+    }
+    match Unknown::parse(&rest[..length as usize]) {
+        Ok(_) => Said::answer(&[0, offset + length, offset, length]),
+        Err(error) => refused_reading(error),
+    }
+}
+
+/// Document 01's examples, with its own words as the expectation.
+fn read_fixed_compounds(readers: &mut Readers) {
+    let table: [(&[u8], Said); 6] = [
+        (&[], Said::refusal(1, &[4, 0])),
+        (&[0x80, 0xCB, 0, 0, 0x40, 0xCB, 0, 0], Said::answer(&[])),
+        (&[0xA0, 0xCB, 0, 0, 0x80, 0xCB, 0, 0], Said::refusal(5, &[])),
+        (&[0x80, 0xCB, 0, 1], Said::refusal(1, &[8, 4])),
+        (&[0x80, 0xCB, 0, 0, 0x80], Said::refusal(1, &[8, 5])),
+        (&[0x00, 0xCB, 0, 1], Said::refusal(2, &[0])),
+    ];
+    for (data, said) in table {
+        let seen = read_only(&mut readers.random, data, ours::compound_parse);
+        readers.compound.enter(said, seen, data.len(), || hex(data));
+        readers.read(data);
+        readers.step_from_everywhere(data);
+    }
+}
+
+/// All headers over the bytes that matter, followed by others, at every length to 12.
+fn read_short_inputs(readers: &mut Readers) {
+    const FIRST: [u8; 9] = [0x80, 0xA0, 0x9F, 0xBF, 0x00, 0x20, 0x40, 0xC0, 0xFF];
+    const KIND: [u8; 8] = [0, 127, 199, 200, 203, 207, 208, 255];
+    const WORD: [[u8; 2]; 7] = [[0, 0], [0, 1], [0, 2], [0, 3], [1, 0], [0, 255], [255, 255]];
+    for first in FIRST {
+        for kind in KIND {
+            for word in WORD {
+                let random = &mut readers.random;
+                let mut data = vec![first, kind, word[0], word[1]];
+                for _ in 0..2 {
+                    let word = random.pick(&WORD[..3]);
+                    data.extend([random.pick(&FIRST), random.pick(&KIND), word[0], word[1]]);
+                }
+                for length in 0..=data.len() {
+                    readers.read(&data[..length]);
+                    readers.step_from_everywhere(&data[..length]);
+                }
+            }
+        }
+    }
+}
+
+/// Appends a packet with a body of `words` words.
+fn push_packet(data: &mut Vec<u8>, random: &mut Random, first: u8, kind: u8, words: u16) {
+    data.extend([first, kind]);
+    data.extend(words.to_be_bytes());
+    data.extend(random.bytes(4 * usize::from(words)));
+}
+
+/// A whole compound of unpadded packets with types outside 200 to 207, and the places of its headers.
+fn whole_compound(random: &mut Random, packets: usize) -> (Vec<u8>, Vec<usize>) {
+    let (mut data, mut places) = (Vec::new(), Vec::new());
+    for _ in 0..packets {
+        places.push(data.len());
+        let first = 0x80 | (random.byte() & 0x1F);
+        let kind = random.pick(&[0, 1, 192, 199, 208, 255]);
+        let words = random.below(4) as u16;
+        push_packet(&mut data, random, first, kind, words);
+    }
+    (data, places)
+}
+
+/// Compounds of 1 to 60 packets, cut at every byte, with each bit of each header turned.
+fn read_damaged_compounds(readers: &mut Readers) {
+    for packets in 1..=60 {
+        let (data, places) = whole_compound(&mut readers.random, packets);
+        for length in 0..=data.len() {
+            readers.read(&data[..length]);
+            readers.step(&data[..length], places[packets / 2] as u64);
+        }
+        for place in places {
+            for bit in 0..32 {
+                let mut damaged = data.clone();
+                damaged[place + bit / 8] ^= 0x80 >> (bit % 8);
+                readers.read(&damaged);
+                readers.step(&damaged, place as u64);
+            }
+        }
+    }
+}
+
+/// Compounds of packets with any header, mostly whole, some of the largest length.
+fn read_random_compounds(readers: &mut Readers, effort: &Effort) {
+    for _ in 0..effort.at_least(100_000) {
+        let random = &mut readers.random;
+        let mut data = Vec::new();
+        for _ in 0..random.below(6) {
+            let clean = !random.once_in(5);
+            let first = random.byte();
+            let first = if clean { 0x80 | (first & 0x1F) } else { first };
+            let kind = random.byte();
+            let words = random.below(5) as u16;
+            push_packet(&mut data, random, first, kind, words);
+        }
+        if random.once_in(4) {
+            let length = random.below(7) as usize;
+            let tail = random.bytes(length);
+            data.extend(tail);
+        }
+        let offset = random.below(data.len() as u64 + 3);
+        readers.read(&data);
+        readers.step(&data, offset);
+    }
+    for first in [0x80, 0xA0, 0x40] {
+        let mut data = Vec::new();
+        push_packet(&mut data, &mut readers.random, first, 254, u16::MAX);
+        push_packet(&mut data, &mut readers.random, 0x80, 254, 0);
+        for length in 262_140..=data.len() {
+            readers.read(&data[..length]);
+            readers.step(&data[..length], 0);
+            readers.step(&data[..length], 262_144);
+        }
+    }
+}
+
+/// What the plain writer takes, apart from the room.
+struct Plain {
+    count: u8,
+    kind: u8,
+    body: Vec<u8>,
+    padding: u8,
+}
+
+impl Plain {
+    fn builder(&self) -> UnknownBuilder<'_> {
+        Unknown::builder(self.kind, &self.body)
+            .count(self.count)
+            .padding(self.padding)
+    }
+
+    /// The bytes of the packet, written by the crate into exactly the right size.
+    fn bytes(&self) -> Vec<u8> {
+        let mut bytes = vec![0; 4 + self.body.len() + usize::from(self.padding)];
+        self.builder().write_into_unchecked(&mut bytes);
+        bytes
+    }
+
+    /// What has to be said, in document 01's order: 8, 9, 11, 15; `bytes` is what the answer writes.
+    fn expected(&self, bytes: &[u8], room: usize) -> Expected {
+        let body = self.body.len() as u64;
+        let needed = 4 + body + u64::from(self.padding);
+        let size = match self.builder().calculate_size() {
+            Err(RtcpWriteError::CountOutOfRange { count, .. }) => {
+                return Said::refusal(8, &[count.into()]).into();
+            }
+            Err(RtcpWriteError::InvalidPadding { padding }) => {
+                return Said::refusal(9, &[padding.into()]).into();
+            }
+            Err(other) => unreachable!("the plain writer does not say {other:?}"),
+            Ok(size) => size as u64,
+        };
+        if body & 3 != 0 {
+            return Expected::differing("odd body refused", Said::refusal(11, &[body]));
+        }
+        if needed > 262_144 {
+            return Expected::differing("length field wraps", Said::refusal(11, &[body]));
+        }
+        let said = if (room as u64) < needed {
+            Said::refusal(15, &[needed, room as u64])
+        } else {
+            Said::answer(&[bytes.len() as u64])
+        };
+        Expected {
+            said,
+            difference: (size != needed).then_some("size without padding"),
+        }
+    }
+
+    fn enter(&self, book: &mut Book, random: &mut Random, bytes: &[u8], room: usize) {
+        let body = Lent::holding(random, &self.body);
+        let mut out = Lent::anything(random, room);
+        let said = ours::unknown_write(
+            self.count,
+            self.kind,
+            body.part(),
+            self.padding,
+            out.part_mut(),
+        );
+        let expected = self.expected(bytes, room);
+        let answer = if expected.is_answer() { bytes } else { &[] };
+        let wrong_place = body.changed_place().or(out.wrong_place(answer));
+        let seen = Seen { said, wrong_place };
+        book.enter(expected, seen, self.body.len() + room, || {
+            format!(
+                "count {}, type {}, padding {}, room {room}, body {}",
+                self.count,
+                self.kind,
+                self.padding,
+                hex(&self.body)
+            )
+        });
+    }
+
+    /// All rooms that matter for this packet.
+    fn enter_rooms(&self, book: &mut Book, random: &mut Random) {
+        let bytes = self.bytes();
+        let needed = bytes.len();
+        for room in [0, 3, needed - 1, needed, needed + 1, needed + 9] {
+            self.enter(book, random, &bytes, room);
+        }
+    }
+}
+
+fn compare_write(effort: &Effort) -> Book {
+    let mut book = Book::new("unknown_write");
+    let random = &mut effort.random();
+    write_first_of_several(&mut book, random);
+    for number in 0..=255 {
+        for length in 0..=12 {
+            let paddings = [number, 0, 4, 252];
+            for (count, padding) in [(number, 0), (31, number), (0, number), (number, 4)]
+                .into_iter()
+                .chain(paddings.map(|padding| (random.byte(), padding)))
+            {
+                let plain = Plain {
+                    count,
+                    kind: random.byte(),
+                    body: random.bytes(length),
+                    padding,
+                };
+                plain.enter_rooms(&mut book, random);
+            }
+        }
+    }
+    for length in 262_130..=262_146 {
+        for padding in [0, 3, 4, 8, 252, 255] {
+            let plain = Plain {
+                count: 1,
+                kind: 250,
+                body: random.bytes(length),
+                padding,
+            };
+            let bytes = plain.bytes();
+            plain.enter(&mut book, random, &bytes, bytes.len());
+            plain.enter(&mut book, random, &bytes, bytes.len() - 1);
+        }
+    }
+    for _ in 0..effort.at_least(40_000) {
+        let length = 4 * random.below(400) as usize;
+        let plain = Plain {
+            count: random.below(32) as u8,
+            kind: random.byte(),
+            body: random.bytes(length),
+            padding: 4 * random.below(64) as u8,
+        };
+        plain.enter_rooms(&mut book, random);
+    }
+    book
+}
+
+/// Every mixture of the four faults: the first one in document 01's order is named.
+fn write_first_of_several(book: &mut Book, random: &mut Random) {
+    for faults in 0..16 {
+        let fault = |bit: u32| faults >> bit & 1 == 1;
+        let plain = Plain {
+            count: if fault(0) { 32 } else { 31 },
+            kind: 207,
+            body: random.bytes(if fault(2) { 7 } else { 8 }),
+            padding: if fault(1) { 6 } else { 8 },
+        };
+        let room: usize = if fault(3) { 11 } else { 20 };
+        let (said, bytes) = match faults {
+            _ if fault(0) => (Said::refusal(8, &[32]), vec![]),
+            _ if fault(1) => (Said::refusal(9, &[6]), vec![]),
+            _ if fault(2) => (Said::refusal(11, &[7]), vec![]),
+            _ if fault(3) => (Said::refusal(15, &[20, 11]), vec![]),
+            _ => (Said::answer(&[20]), plain.bytes()),
+        };
+        let mut out = Lent::anything(random, room);
+        let seen = Seen {
+            said: ours::unknown_write(
+                plain.count,
+                plain.kind,
+                &plain.body,
+                plain.padding,
+                out.part_mut(),
+            ),
+            wrong_place: out.wrong_place(&bytes),
+        };
+        book.enter(said, seen, room, || {
+            format!("mixture {faults:04b} of faults")
+        });
+    }
+}

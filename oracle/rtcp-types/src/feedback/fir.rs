@@ -1,0 +1,13 @@
+// A stand-in with names only: the published file is not among the sources here.
+
+/// A name without contents.
+#[derive(Debug)]
+pub struct Fir;
+
+/// A name without contents.
+#[derive(Debug)]
+pub struct FirBuilder;
+
+/// A name without contents.
+#[derive(Debug)]
+pub struct FirEntry;

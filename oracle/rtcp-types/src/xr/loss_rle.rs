@@ -1,0 +1,9 @@
+// A stand-in with names only: the published file is not among the sources here.
+
+/// A name without contents.
+#[derive(Debug)]
+pub struct LossRle;
+
+/// A name without contents.
+#[derive(Debug)]
+pub struct LossRleBuilder;
