@@ -1,0 +1,42 @@
+-- What the stores of a packet leave, one after the other.
+use Prim.Native.Nat.{ℕ, _+_, _-_, _≤_}
+use mathlib.Core.List.{List, [], _∷_, _++_}
+use mathlib.Core.Path.{_≡_, sym, ap, _∙_}
+use native.Mathlib.Nat.{zero-add}
+use native.Mathlib.Omega.{arith}
+use borrow.Author.Tests.{eq-eqb, ne-eqb}
+use lib.ListN.{length}
+use lib.Seq.{sets}
+use Rattle.lent.specs.Bytes.{be16Bytes, zeroBytes}
+use Rattle.lent.specs.After.{over, sets-over}
+use Rattle.lent.specs.Laws.{sets-append, length-zeroBytes}
+use Rattle.unknown.specs.Packet.{sizeOf, bodyBytes, padBytes, packetBytes}
+use Rattle.unknown.specs.Laws.{length-bodyBytes, length-packetBytes}
+
+-- bytes stored right behind others
+pub behind : (old now then front more : List ℕ) (at from : ℕ) → now ≡ sets old at front → from ≡ at + length front → then ≡ sets now from more
+    → then ≡ sets old at (front ++ more)
+behind old now then front more at from stands end stored = stored ∙ rw (stands, end) (sets-append old at front more)
+
+-- the header's bytes one after the other, and the body
+pub head-and-body : (old one two four all body : List ℕ) (a b w : ℕ) → one ≡ sets old 0 (a ∷ []) → two ≡ sets one 1 (b ∷ []) → four ≡ sets two 2 (be16Bytes w)
+    → all ≡ sets four 4 body → all ≡ sets old 0 ((a ∷ b ∷ be16Bytes w) ++ body)
+head-and-body old one two four all body a b w first second third last = last ∙ rw (third, second, first) (sets-append old 0 (a ∷ b ∷ be16Bytes w) body)
+
+pub no-padding : (old : List ℕ) (at padding : ℕ) → padding ≡ 0 → old ≡ sets old at (padBytes padding)
+unfolding padBytes
+no-padding old at padding none = simp (eq-eqb padding 0 none)
+
+pub some-padding : (old zeroed then : List ℕ) (at padding : ℕ) → (padding ≡ 0 → ⊥) → zeroed ≡ sets old at (zeroBytes (padding - 1))
+    → then ≡ sets zeroed (at + (padding - 1)) (padding ∷ []) → then ≡ sets old at (padBytes padding)
+unfolding padBytes
+some-padding old zeroed then at padding some zeros count =
+    simp (ne-eqb padding 0 some)
+    (behind old zeroed then (zeroBytes (padding - 1)) (padding ∷ []) at (at + (padding - 1)) zeros (omega (arith, length-zeroBytes (padding - 1))) count)
+
+-- the whole packet over the front of the buffer
+pub whole : (old now then body : List ℕ) (count type padding : ℕ) → now ≡ sets old 0 (bodyBytes count type body padding) → then ≡ sets now (4 + length body) (padBytes padding)
+    → sizeOf (length body) padding ≤ length old → then ≡ over (packetBytes count type body padding) old
+whole old now then body count type padding first second fits =
+    behind old now then (bodyBytes count type body padding) (padBytes padding) 0 (4 + length body) first (omega (arith, length-bodyBytes count type body padding)) second
+    ∙ sets-over (packetBytes count type body padding) old (omega (arith, length-packetBytes count type body padding))

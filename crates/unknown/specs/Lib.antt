@@ -1,0 +1,4 @@
+pub mod Packet
+pub mod Write
+pub mod Laws
+pub mod Unique

@@ -1,0 +1,75 @@
+// The plain packet writer (`UnknownBuilder` of compound.rs): any count, type, body and padding.
+use refusal::Number;
+use refusal::Refusal;
+ghost use mathlib.Core.Path.{_≡_};
+ghost use Prim.Native.Nat.{_+_, _≤_};
+ghost use lib.ListN.{length};
+ghost use lib.Seq.{sets};
+ghost use Rattle.unknown.specs.Packet.{sizeOf, firstByte, bodyBytes, padBytes};
+ghost use Rattle.unknown.specs.Write.{Wrote};
+
+// The longest packet that the length field can say.
+const LONGEST: usize = 262144;
+
+// Version 2, the padding bit, and the count.
+fn first_byte(count: u8, padding: u8) -> u8
+    requires { ⌜ count ≤ 31 ⌝ }
+    ensures { λ r. ⌜ r ≡ firstByte count padding ⌝ }
+{
+    if padding == 0 {
+        128 + count
+    } else {
+        160 + count
+    }
+}
+
+// The header and the body.
+fn put_body(count: u8, packet_type: u8, body: &[u8], padding: u8, out: &mut [u8])
+    requires { ⌜ (count ≤ 31) × (sizeOf (length (now body)) padding ≤ 262144) ⌝ }
+    ensures { λ _. ⌜ now (out .exit) ≡ sets (now (out .entry)) 0 (bodyBytes count «packet_type» (now (body .entry)) padding) ⌝ }
+{
+    lent::put(out, 0, first_byte(count, padding));
+    lent::put(out, 1, packet_type);
+    lent::put16(out, 2, ((4 + body.len() + padding as usize) / 4 - 1) as u16);
+    lent::copy(out, 4, body);
+}
+
+// Zeros, and the count of the padding as its last byte.
+fn put_padding(padding: u8, out: &mut [u8], at: usize)
+    requires { ⌜ at + padding ≤ length (now out) ⌝ }
+    ensures { λ _. ⌜ now (out .exit) ≡ sets (now (out .entry)) at (padBytes padding) ⌝ }
+{
+    if padding == 0 {
+        return;
+    }
+    let zeros = padding as usize - 1;
+    lent::zeros(out, at, zeros);
+    lent::put(out, at + zeros, padding);
+}
+
+// The bytes written, or why none were.
+pub fn write(count: u8, packet_type: u8, body: &[u8], padding: u8, out: &mut [u8]) -> Number
+    ensures { λ r. ⌜ Wrote count «packet_type» (now (body .entry)) padding (now (out .entry)) r (now (out .exit)) ⌝ }
+{
+    if 31 < count {
+        return Number::No(Refusal::Count(count));
+    }
+    if padding % 4 != 0 {
+        return Number::No(Refusal::UnevenPadding(padding));
+    }
+    let size = body.len();
+    if size % 4 != 0 {
+        return Number::No(Refusal::Body(size));
+    }
+    let needed = 4 + size + padding as usize;
+    if LONGEST < needed {
+        return Number::No(Refusal::Body(size));
+    }
+    let present = out.len();
+    if present < needed {
+        return Number::No(Refusal::Room { needed, present });
+    }
+    put_body(count, packet_type, body, padding, out);
+    put_padding(padding, out, 4 + size);
+    Number::Is(needed)
+}
