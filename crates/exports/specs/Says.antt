@@ -1,10 +1,11 @@
 -- What the C interface's struct says of an outcome, and the values that each kind of answer has there.
-use Prim.Native.Nat.{ℕ}
+use Prim.Native.Nat.{ℕ, _-_}
 use mathlib.Core.List.{List, [], _∷_}
 use lib.IntN.{ℤ, pos}
 use Rattle.refusal.specs.Outcome.{Outcome, gave, refused}
 use Rattle.refusal.specs.Told.{valueBits}
 use Rattle.utils.specs.Check.{Padding, clear, byte}
+use Rattle.compound.specs.Walk.{Met, over, packet, Step, step}
 use Rattle.exports.specs.declared.Said.{Said}
 
 -- 0 for an answer, else the refusal's number
@@ -42,3 +43,11 @@ paddingValues (byte b) = pos 1 ∷ pos b ∷ []
 
 unfoldable pub padding : Outcome Padding → Outcome (List ℤ)
 padding = answered paddingValues
+
+-- 0, next offset, start, length of a packet; 1, the end where the walk is over
+abbrev pub walkValues : ℕ → Met → ℕ → List ℤ
+walkValues at packet next = pos 0 ∷ pos next ∷ pos at ∷ pos (next - at) ∷ []
+walkValues at over next = pos 1 ∷ pos next ∷ []
+
+unfoldable pub walk : ℕ → Step → Outcome (List ℤ)
+walk at (step found next) = answered (λ met. walkValues at met next) found

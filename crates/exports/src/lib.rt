@@ -6,13 +6,16 @@ use refusal::Number;
 use refusal::Refusal;
 use utils::Padded;
 ghost use mathlib.Core.Path.{_≡_};
-ghost use Rattle.refusal.specs.Outcome.{Outcome, gave};
 ghost use Rattle.refusal.specs.Number.{no};
 ghost use Rattle.refusal.specs.Said.{saidChecked, saidNumber};
 ghost use Rattle.utils.specs.Header.{versionOf, paddingBitOf, countOf, typeOf, lengthOf};
 ghost use Rattle.utils.specs.Check.{field, paddingByte, checkPacket};
 ghost use Rattle.utils.specs.Said.{saidPadded};
-ghost use Rattle.exports.specs.Says.{saidOf, nothing, number, padding};
+ghost use Rattle.compound.specs.Unknown.{unknown};
+ghost use Rattle.compound.specs.Pass.{firstPass};
+ghost use Rattle.compound.specs.Walk.{walkStep};
+ghost use Rattle.exports.specs.Says.{saidOf, nothing, number, padding, walk};
+ghost use Rattle.exports.specs.Wrote.{WroteUnknown};
 
 // Number 0 and the answer's values, or a refusal's number and its values; the rest 0.
 #[repr(C)]
@@ -112,4 +115,52 @@ pub extern "C" fn bog_check_packet(packet: &[u8], least: u64, packet_type: u8) -
     ensures { λ s. ⌜ s ≡ saidOf (nothing (checkPacket (now (packet .entry)) least «packet_type»)) ⌝ }
 {
     said_checked(utils::check_packet(packet, least as usize, packet_type))
+}
+
+#[no_mangle]
+pub extern "C" fn bog_compound_parse(bytes: &[u8]) -> Said
+    ensures { λ s. ⌜ s ≡ saidOf (nothing (firstPass (now (bytes .entry)))) ⌝ }
+{
+    said_checked(compound::parse(bytes))
+}
+
+#[no_mangle]
+pub extern "C" fn bog_unknown_parse(packet: &[u8]) -> Said
+    ensures { λ s. ⌜ s ≡ saidOf (nothing (unknown (now (packet .entry)))) ⌝ }
+{
+    said_checked(compound::unknown_parse(packet))
+}
+
+#[no_mangle]
+pub extern "C" fn bog_walk_step(bytes: &[u8], offset: u64) -> Said
+    ensures { λ s. ⌜ s ≡ saidOf (walk offset (walkStep (now (bytes .entry)) offset)) ⌝ }
+{
+    let at = offset as usize;
+    let walked = compound::walk_step(bytes, at);
+    let next = walked.next;
+    let found = walked.found;
+    match found {
+        Found::Packet => Said {
+            number: 0,
+            values: [0, next as u64, at as u64, (next - at) as u64, 0],
+        },
+        Found::Over => Said {
+            number: 0,
+            values: [1, next as u64, 0, 0, 0],
+        },
+        Found::No(r) => refused(r),
+    }
+}
+
+#[no_mangle]
+pub extern "C" fn bog_unknown_write(
+    count: u8,
+    packet_type: u8,
+    body: &[u8],
+    padding: u8,
+    out: &mut [u8],
+) -> Said
+    ensures { λ s. ⌜ WroteUnknown count «packet_type» (now (body .entry)) padding (now (out .entry)) s (now (out .exit)) ⌝ }
+{
+    said_number(unknown::write(count, packet_type, body, padding, out))
 }
