@@ -1,6 +1,5 @@
 /*
- * bogslipper: reading and writing of RTCP headers, compounds, generic NACK and
- * transport-wide congestion control feedback (TWCC). For C and C++.
+ * bogslipper: reading and writing of RTCP headers and compounds. For C and C++.
  *
  * Every call answers one bog_said. Number 0 is an answer; any other number is
  * a refusal of this table. Where several refusals apply, the first one in the
@@ -116,64 +115,6 @@ bog_said bog_walk_step(const uint8_t *data, size_t n, uint64_t offset);
  */
 bog_said bog_unknown_write(uint8_t count, uint8_t type, const uint8_t *body, size_t body_n,
                            uint8_t padding, uint8_t *out, size_t out_n);
-
-/*
- * Generic NACK (RFC 4585, 6.2.1).
- * A store of 8,192 bytes is a set of numbers: number n at byte n / 8, bit
- * n mod 8, bit 0 worth 1. The caller lends zeroed bytes for the empty set.
- */
-
-/* Adds a number to a store. Values: none. Refusals: 16. */
-bog_said bog_nack_add(uint8_t *store, size_t store_n, uint16_t number);
-
-/*
- * Lists the numbers of NACK entries in their order, repeats included; 1 to 3
- * trailing bytes are ignored. Values: numbers listed.
- * Refusals: 15 (list places).
- */
-bog_said bog_nack_read(const uint8_t *data, size_t n, uint16_t *list, size_t list_n);
-
-/*
- * Writes a store's numbers as entries of 4 bytes, ascending, none passing
- * 65,535; the empty set writes nothing. Values: bytes written, at most 15,424.
- * Refusals: 16, 15 (bytes).
- */
-bog_said bog_nack_write(const uint8_t *store, size_t store_n, uint8_t *out, size_t out_n);
-
-/*
- * TWCC blocks (draft-holmer-rmcat-transport-wide-cc-extensions-01).
- * A status word: -32,768 to 32,767 a delta in ticks of 250 microseconds,
- * 32,768 not received. Reading also gives 32,769, an entry without its delta,
- * and 32,770, a reserved symbol.
- */
-
-/*
- * Lists the status words of a block; place k is packet base + k modulo 65,536.
- * Values: base, status count, reference time, feedback count, entries listed.
- * Refusals: 1 (8 bytes), 15 (list places).
- */
-bog_said bog_twcc_read(const uint8_t *block, size_t n, int32_t *list, size_t list_n);
-
-/*
- * Writes one block from the front of a list, of at most `limit` bytes where
- * `limited` is set (otherwise `limit` is not looked at). Go on with the
- * entries not taken; a limit of at least 24 takes one or more.
- * Values: bytes written, entries taken.
- * Refusals: 10, 13, 12, 14, 15 (bytes).
- */
-bog_said bog_twcc_write(uint16_t base, uint32_t time, uint8_t feedback, const int32_t *list,
-                        size_t list_n, bool limited, uint64_t limit, uint8_t *out,
-                        size_t out_n);
-
-/*
- * Arrival times.
- */
-
-/*
- * The arrival of a received entry in ticks of 250 microseconds: reference
- * time x 256 + delta. Values: tick (signed). Refusals: 10.
- */
-bog_said bog_arrival(uint32_t time, int16_t delta);
 
 #ifdef __cplusplus
 }

@@ -78,69 +78,11 @@ static void use_unknown_write(void)
     check("write, empty body", says(bog_unknown_write(0, 0, NULL, 0, 0, out, 12), 0, 4, 0, 0, 0, 0));
 }
 
-static void use_nack(void)
-{
-    static uint8_t store[8192];
-    const uint8_t entries[8] = {0, 0, 0x80, 0, 0xFF, 0xFF, 0, 0};
-    const uint16_t numbers[3] = {0, 16, 65535};
-    uint8_t out[8] = {0};
-    uint16_t list[3] = {0};
-    int i;
-
-    for (i = 0; i < 3; i++)
-        check("add", says(bog_nack_add(store, 8192, numbers[i]), 0, 0, 0, 0, 0, 0));
-    check("add, store", says(bog_nack_add(store, 8191, 0), 16, 8191, 0, 0, 0, 0));
-    check("nack write", says(bog_nack_write(store, 8192, out, 8), 0, 8, 0, 0, 0, 0));
-    check("nack write, bytes", same(out, entries, 8));
-    check("nack write, room", says(bog_nack_write(store, 8192, out, 7), 15, 8, 7, 0, 0, 0));
-    check("nack read", says(bog_nack_read(entries, 8, list, 3), 0, 3, 0, 0, 0, 0));
-    check("nack read, list", same(list, numbers, sizeof list));
-    check("nack read, room", says(bog_nack_read(entries, 8, list, 2), 15, 3, 2, 0, 0, 0));
-}
-
-static void use_twcc_read(void)
-{
-    const uint8_t block[11] = {0, 5, 0, 2, 0, 0, 1, 7, 0xF4, 0, 9};
-    const int32_t words[2] = {32770, 9};
-    int32_t list[2] = {0};
-
-    check("twcc read", says(bog_twcc_read(block, 11, list, 2), 0, 5, 2, 1, 7, 2));
-    check("twcc read, list", same(list, words, sizeof list));
-    check("twcc read, short", says(bog_twcc_read(block, 7, list, 2), 1, 8, 7, 0, 0, 0));
-}
-
-static void use_twcc_write(void)
-{
-    const int32_t one[1] = {255};
-    const int32_t nine[9] = {0};
-    const uint8_t block[12] = {0, 1, 0, 1, 0, 0, 0, 0, 0xD0, 0, 0xFF, 0};
-    uint8_t out[12];
-
-    memset(out, 0x55, sizeof out);
-    check("twcc write", says(bog_twcc_write(1, 0, 0, one, 1, false, 0, out, 12), 0, 12, 1, 0, 0, 0));
-    check("twcc write, bytes", same(out, block, 12));
-    check("twcc write, limit",
-          says(bog_twcc_write(1, 0, 0, nine, 9, true, 12, out, 12), 0, 12, 1, 0, 0, 0));
-    check("twcc write, time",
-          says(bog_twcc_write(1, 16777216, 0, one, 1, false, 0, out, 12), 10, 16777216, 0, 0, 0, 0));
-}
-
-static void use_arrival(void)
-{
-    check("arrival", says(bog_arrival(1, 4), 0, 260, 0, 0, 0, 0));
-    check("arrival, below zero", says(bog_arrival(0, -1), 0, UINT64_MAX, 0, 0, 0, 0));
-    check("arrival, time", says(bog_arrival(16777216, 0), 10, 16777216, 0, 0, 0, 0));
-}
-
 int main(void)
 {
     use_header();
     use_compound();
     use_unknown_write();
-    use_nack();
-    use_twcc_read();
-    use_twcc_write();
-    use_arrival();
     printf("c: %d checks, %d failures\n", checks, failures);
     return failures != 0;
 }

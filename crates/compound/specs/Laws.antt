@@ -8,10 +8,10 @@ use borrow.Author.Tests.{ltb-false, lt-ltb, le-ltb, ne-eqb}
 use lib.Dec.{eqb, ltb, leb}
 use lib.IntN.{ℤ}
 use lib.ListN.{length, drop}
-use Rattle.refusal.specs.Outcome.{Outcome, gave, refused, refuse, andThen}
-use Rattle.utils.specs.Header.{versionOf, paddingBitOf, lengthOf}
+use Rattle.refusal.specs.Outcome.{gave, refused, refuse}
+use Rattle.utils.specs.Header.{versionOf, paddingBitOf}
 use Rattle.compound.specs.Pass.{endOf, firstTurn, passFrom, firstPass}
-use Rattle.compound.specs.Walk.{walkStep, Step, step, Met, over, packet, last}
+use Rattle.compound.specs.Walk.{walkStep, step, over, packet, last}
 
 -- a turn that goes on has a whole packet before it, four bytes at least
 pub record Turned (bytes : List ℕ) (at next : ℕ) : Type 0 where

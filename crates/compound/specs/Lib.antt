@@ -3,4 +3,5 @@ pub mod Pass
 pub mod Walk
 pub mod Said
 pub mod Laws
+pub mod Packets
 pub mod Unique

@@ -2,13 +2,12 @@
 use Prim.Native.Nat.{ℕ}
 use mathlib.Core.List.{List}
 use mathlib.Core.Path.{_≡_, refl, ap, ap₂, sym, _∙_}
-use Rattle.refusal.specs.Outcome.{Outcome, gave, refused}
 use Rattle.refusal.specs.Said.{saidChecked}
 use Rattle.refusal.specs.Unique.{no-unique, checked-unique}
 use Rattle.refusal.specs.declared.Checked.{Checked}
 use Rattle.compound.specs.Unknown.{unknown}
 use Rattle.compound.specs.Pass.{firstPass}
-use Rattle.compound.specs.Walk.{Met, Step, step, walkStep}
+use Rattle.compound.specs.Walk.{walkStep}
 use Rattle.compound.specs.Said.{saidFound, saidWalked}
 use Rattle.compound.specs.declared.Found.{Found}
 use Rattle.compound.specs.declared.Found.the-variants as found

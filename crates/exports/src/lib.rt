@@ -10,7 +10,6 @@ ghost use Rattle.refusal.specs.Number.{no};
 ghost use Rattle.refusal.specs.Said.{saidChecked, saidNumber};
 ghost use Rattle.utils.specs.Header.{versionOf, paddingBitOf, countOf, typeOf, lengthOf};
 ghost use Rattle.utils.specs.Check.{field, paddingByte, checkPacket};
-ghost use Rattle.utils.specs.Said.{saidPadded};
 ghost use Rattle.compound.specs.Unknown.{unknown};
 ghost use Rattle.compound.specs.Pass.{firstPass};
 ghost use Rattle.compound.specs.Walk.{walkStep};

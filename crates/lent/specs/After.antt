@@ -1,5 +1,5 @@
 -- What a lent buffer or list holds after a call that fills its front.
-use Prim.Native.Nat.{ℕ, _≤_}
+use Prim.Native.Nat.{_≤_}
 use mathlib.Core.Path.{_≡_}
 use mathlib.Core.List.{List, _++_}
 use native.Mathlib.Nat.{zero-add}

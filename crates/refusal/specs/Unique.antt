@@ -1,12 +1,11 @@
 -- No slack: number and values determine a refusal, and what is said determines an answer.
 use Prim.Native.Nat.{ℕ}
-use mathlib.Core.List.{List, [], _∷_}
+use mathlib.Core.List.{List}
 use mathlib.Core.Path.{_≡_, refl, ap, sym, _∙_}
 use mathlib.Core.Bool.{cond}
 use lib.Dec.{eqb}
 use lib.IntN.{ℤ, natAbs, pos}
 use lib.ListN.{getD}
-use Rattle.refusal.specs.Outcome.{Outcome, gave, refused}
 use Rattle.refusal.specs.Number.{numberOf, valuesOf, no}
 use Rattle.refusal.specs.Said.{saidChecked, saidNumber}
 use Rattle.refusal.specs.declared.Checked.{Checked}

@@ -1,10 +1,7 @@
 //! Measures our library over its C interface beside the Rust crate, row by row, in one run.
 
 mod compound;
-mod nack;
 mod row;
-mod twcc_read;
-mod twcc_write;
 
 use std::process::ExitCode;
 
@@ -15,9 +12,6 @@ type Part = (&'static str, fn() -> Vec<Row>);
 
 const PARTS: &[Part] = &[
     ("compound", compound::rows),
-    ("nack", nack::rows),
-    ("twcc_read", twcc_read::rows),
-    ("twcc_write", twcc_write::rows),
 ];
 
 const HELP: &str = "\

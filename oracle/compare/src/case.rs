@@ -1,4 +1,4 @@
-//! What every part uses: the books of cases and disagreements, lent memory with guards, and the Rust crate's words in ours.
+//! What every part uses: books of cases and disagreements, lent memory with guards, the crate's words in ours.
 
 use std::collections::BTreeMap;
 use std::fmt::{self, Write};

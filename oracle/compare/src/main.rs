@@ -1,12 +1,8 @@
 //! Runs our library and the Rust crate on the same inputs and says where they disagree.
 
-mod arrival;
 mod case;
 mod compound;
 mod header;
-mod nack;
-mod twcc_read;
-mod twcc_write;
 
 use std::process::ExitCode;
 use std::time::Instant;
@@ -19,10 +15,6 @@ type Part = (&'static str, fn(&Effort) -> Vec<Book>);
 const PARTS: &[Part] = &[
     ("header", header::compare),
     ("compound", compound::compare),
-    ("nack", nack::compare),
-    ("twcc_read", twcc_read::compare),
-    ("twcc_write", twcc_write::compare),
-    ("arrival", arrival::compare),
 ];
 
 const HELP: &str = "\

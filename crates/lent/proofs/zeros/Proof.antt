@@ -1,8 +1,7 @@
-use Prim.Native.Nat.{_-_, _<_}
+use Prim.Native.Nat.{_-_}
 use mathlib.Core.Path.{_∙_}
 use denote.Ref.{now}
 use borrow.Author.Needs.{needs}
-use lib.ListN.{length}
 use Rattle.lent.specs.Bytes.{zeroBytes}
 use Rattle.lent.specs.Laws.{length-zeroBytes, getD-zeroBytes, sets-zeros}
 use Rattle.lent.proofs.Storing.{Storing, storing-start, storing-turn, storing-over}
