@@ -5,7 +5,7 @@ use mathlib.Core.List.{List, [], _∷_, _++_}
 use mathlib.Core.Path.{_≡_, refl, sym, ap, _∙_}
 use mathlib.Core.Bool.{Bool, true, false, cond, not}
 use native.Mathlib.Omega.{arith}
-use borrow.Author.Tests.{ltb-true, ltb-false, lt-ltb, le-ltb, le-leb, lt-leb, eq-eqb}
+use borrow.Author.Tests.{ltb-true, ltb-false, lt-ltb, le-ltb, lt-leb, eq-eqb}
 use lib.Dec.{eqb, ltb}
 use lib.ListN.{length, take, drop, drop-of-length-le, take-append-drop}
 use lib.Seq.{getD-take, drop-drop}
@@ -13,7 +13,7 @@ use Rattle.refusal.specs.Outcome.{Outcome, gave, refused, refuse, andThen}
 use Rattle.utils.specs.Header.{versionOf, lengthOf}
 use Rattle.compound.specs.Pass.{endOf, firstTurn, passFrom, firstPass}
 use Rattle.compound.specs.Walk.{Step, step, over, packet, last, walkStep}
-use Rattle.compound.specs.Laws.{Turned, turn-on, pass-start}
+use Rattle.compound.specs.Laws.{Turned, turn-on, pass-start, walk-over}
 
 -- the packets from an offset on, each as long as it says; so many at most
 unfoldable pub packetsFrom : ℕ → List ℕ → ℕ → List (List ℕ)
@@ -77,10 +77,6 @@ walk-on bytes at t =
     let header : at + 4 ≤ length bytes = omega arith in
     simp (lt-leb (length bytes) at more, le-ltb (length bytes) (at + 4) header, le-ltb (length bytes) (endOf bytes at) (t .within))
 
-walk-over : (bytes : List ℕ) (at : ℕ) → length bytes ≤ at → walkStep bytes at ≡ last bytes (gave over)
-unfolding walkStep
-walk-over bytes at past = simp (le-leb (length bytes) at past)
-
 -- a packet's version is read off its own bytes
 own-version : (s : List ℕ) (n : ℕ) → 4 ≤ n → versionOf (take n s) ≡ versionOf s
 own-version s n header = rw (getD-take n s 0 0 (omega arith))
@@ -136,7 +132,7 @@ no-other (one {p} {ps} two rest) = rw (eq-eqb (versionOf p) 2 two, no-other rest
 from-start : (bytes : List ℕ) → firstPass bytes ≡ gave tt → passFrom (length bytes) bytes 0 ≡ gave tt
 unfolding firstPass
 from-start [] passes = let z : _≡_ {A = ℕ} 0 1 = cc in absurd (omega arith)
-from-start (b ∷ bytes) passes = sym (pass-start (b ∷ bytes) (omega arith)) ∙ passes
+from-start (b ∷ bytes) passes = pass-start (b ∷ bytes) (omega arith) ∙ passes
 
 module _ (bytes : List ℕ) (passes : firstPass bytes ≡ gave tt) where
   -- the walk hands back exactly the packets, up to the first of another version

@@ -1,5 +1,5 @@
 -- The answers of this crate as the promises speak of them.
-use Prim.Native.Nat.{ℕ}
+use Prim.Native.Nat.{ℕ, _*_}
 use Rattle.refusal.specs.Outcome.{Outcome, gave}
 use Rattle.refusal.specs.Number.{no}
 use Rattle.compound.specs.Walk.{Met, over, packet, Step, step}
@@ -9,8 +9,9 @@ use Rattle.compound.specs.declared.Found.{Found}
 use Rattle.compound.specs.declared.Found.the-variants as found
 use Rattle.compound.specs.declared.Walked.{Walked}
 
+-- a turn counts in words of four bytes
 abbrev pub saidTurn : Turn → Outcome ℕ
-saidTurn (turn.Next next) = gave next
+saidTurn (turn.Next word) = gave (4 * word)
 saidTurn (turn.No r) = no r
 
 abbrev pub saidFound : Found → Outcome Met

@@ -3,7 +3,7 @@
 use refusal::Checked;
 use refusal::Refusal;
 ghost use mathlib.Core.Path.{_≡_};
-ghost use Prim.Native.Nat.{_<_};
+ghost use Prim.Native.Nat.{_+_, _*_, _<_, _≤_};
 ghost use lib.ListN.{length};
 ghost use Rattle.refusal.specs.Said.{saidChecked};
 ghost use Rattle.utils.specs.Header.{versionOf};
@@ -11,8 +11,9 @@ ghost use Rattle.compound.specs.Unknown.{unknown};
 ghost use Rattle.compound.specs.Pass.{firstTurn, firstPass};
 ghost use Rattle.compound.specs.Walk.{walkStep, walkNext, walkPart};
 ghost use Rattle.compound.specs.Said.{saidTurn, saidWalked};
+ghost use Rattle.compound.specs.Laws.{WordsBehind};
 
-// One turn of the first pass: where the next packet starts.
+// One turn of the first pass: where the next packet starts, in words of four bytes.
 pub enum Turn {
     Next(usize),
     No(Refusal),
@@ -49,30 +50,42 @@ pub fn unknown_parse(packet: &[u8]) -> Checked
     utils::check_length(packet)
 }
 
-// The tests of the first pass at an offset below the end, once the first packet's version is known to be 2.
-fn turn_at(bytes: &[u8], at: usize) -> Turn
-    requires { ⌜ (at < length (now bytes)) × (versionOf (now bytes) ≡ 2) ⌝ }
-    ensures { λ r. ⌜ saidTurn r ≡ firstTurn (now (bytes .entry)) at ⌝ }
+// A byte where a larger number is wanted.
+fn wide(byte: u8) -> usize
+    ensures { λ r. ⌜ (r ≡ byte) × (r < 256) ⌝ }
+{
+    byte as usize
+}
+
+// The length field of the packet that starts at an offset: words of four bytes behind the first. Tests on the field itself
+// let the compiler load its two bytes as one.
+fn words_behind(bytes: &[u8], at: usize) -> usize
+    requires { ⌜ at + 4 ≤ length (now bytes) ⌝ }
+    ensures { λ r. ⌜ WordsBehind (now (bytes .entry)) at r ⌝ }
+{
+    256 * wide(bytes[at + 2]) + wide(bytes[at + 3])
+}
+
+// The tests of the first pass at a packet whose header is there, once the first packet's version is known to be 2. The
+// pass counts in words of four bytes, since every packet is whole words long.
+fn turn_at(bytes: &[u8], word: usize) -> Turn
+    requires { ⌜ (4 * word + 4 ≤ length (now bytes)) × (versionOf (now bytes) ≡ 2) ⌝ }
+    ensures { λ r. ⌜ saidTurn r ≡ firstTurn (now (bytes .entry)) (4 * word) ⌝ }
 {
     let end = bytes.len();
-    if end < at + 4 {
+    let at = 4 * word;
+    let behind = words_behind(bytes, at);
+    let next = word + 1 + behind;
+    if end / 4 - word <= behind {
         return Turn::No(Refusal::TooShort {
-            expected: at + 4,
+            expected: 4 * next,
             actual: end,
         });
     }
-    let packet = &bytes[at..];
-    let next = at + utils::length_of(packet);
-    if end < next {
-        return Turn::No(Refusal::TooShort {
-            expected: next,
-            actual: end,
-        });
-    }
-    if utils::padding_bit_of(packet) == 0 {
+    if bytes[at] / 32 % 2 == 0 {
         return Turn::Next(next);
     }
-    if next < end {
+    if 4 * next < end {
         return Turn::No(Refusal::Padding);
     }
     Turn::Next(next)
@@ -93,16 +106,22 @@ pub fn parse(bytes: &[u8]) -> Checked
     if version != 2 {
         return Checked::No(Refusal::Version(version));
     }
-    let mut at = 0;
-    while at < end {
-        match turn_at(bytes, at) {
+    let mut word = 0;
+    while word < end / 4 {
+        match turn_at(bytes, word) {
             Turn::Next(next) => {
-                at = next;
+                word = next;
             }
             Turn::No(r) => {
                 return Checked::No(r);
             }
         }
+    }
+    if 4 * word < end {
+        return Checked::No(Refusal::TooShort {
+            expected: 4 * word + 4,
+            actual: end,
+        });
     }
     Checked::Fine
 }
@@ -118,7 +137,7 @@ pub fn walk_step(bytes: &[u8], at: usize) -> Walked
             next: end,
         };
     }
-    if end < at + 4 {
+    if end - at < 4 {
         return Walked {
             found: Found::No(Refusal::TooShort {
                 expected: at + 4,
@@ -127,9 +146,9 @@ pub fn walk_step(bytes: &[u8], at: usize) -> Walked
             next: end,
         };
     }
-    let packet = &bytes[at..];
-    let next = at + utils::length_of(packet);
-    if end < next {
+    let behind = words_behind(bytes, at);
+    let next = at + 4 + 4 * behind;
+    if (end - at) / 4 <= behind {
         return Walked {
             found: Found::No(Refusal::TooShort {
                 expected: next,
@@ -138,7 +157,7 @@ pub fn walk_step(bytes: &[u8], at: usize) -> Walked
             next: end,
         };
     }
-    let version = utils::version_of(packet);
+    let version = bytes[at] / 64;
     if version != 2 {
         return Walked {
             found: Found::No(Refusal::Version(version)),

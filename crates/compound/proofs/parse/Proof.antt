@@ -1,23 +1,22 @@
--- The turns that are left, from here, say what the whole pass says.
-use Prim.Native.Nat.{ℕ, _≤_, _-_}
+-- The turns that are left, from here, say what the whole pass says; fewer than four bytes at the end have no header.
+use Prim.Native.Nat.{_*_, _-_, _/_}
 use mathlib.Core.Path.{_≡_, sym, ap, _∙_}
 use native.Mathlib.Omega.{arith}
 use borrow.Author.Needs.{needs}
-use lib.ListN.{length}
 use denote.Ref.{now}
 use Rattle.refusal.specs.Outcome.{gave}
 use Rattle.utils.specs.Header.{versionOf}
 use Rattle.compound.specs.Said.{saidTurn}
-use Rattle.compound.specs.Pass.{firstTurn, passFrom, firstPass}
-use Rattle.compound.specs.Laws.{turn-on, pass-start, pass-short, pass-version, pass-next, pass-no, pass-end}
+use Rattle.compound.specs.Pass.{firstTurn}
+use Rattle.compound.specs.Laws.{turn-on, turn-short, Passing, passing-start, passing-next, passing-no, passing-end, pass-short, pass-version}
 use Rattle.compound.proofs.parse.Statement.{statement}
 use Rattle.compound.proofs.parse.Tie as tie
 
 abbrev Inv-loop : tie.InvT-loop
-Inv-loop bytes end version at₀ at = (turns : ℕ) × ((length bytes - at ≤ turns) × (passFrom turns bytes at ≡ firstPass bytes))
+Inv-loop bytes end version word₀ word = Passing bytes (4 * word)
 
 abbrev μ-loop : tie.MeasureT-loop
-μ-loop bytes end version at₀ at = end - at
+μ-loop bytes end version word₀ word = end / 4 - word
 
 returns : tie.Need-returns Inv-loop μ-loop
 returns c = sym (pass-short _ (c .if1 .taken))
@@ -32,9 +31,7 @@ returns-2 c =
     rw (pass-version bytes (c .before .before .if1 .left) other, ← (c .before .version-of .ensures))
 
 loop-holds : tie.Need-loop-holds Inv-loop μ-loop
-loop-holds c =
-    let bytes = now (c .before .before .before .before .args .bytes) in
-    (length bytes, (omega arith, sym (pass-start bytes (omega arith))))
+loop-holds c = passing-start _ (omega arith)
 
 turn-at-requires : tie.Need-turn-at-requires Inv-loop μ-loop
 turn-at-requires c κs = search needs
@@ -44,31 +41,35 @@ enum-known-next c = search needs
 
 -- what a turn that goes on said
 goes : (c : tie.After-known-told Inv-loop μ-loop)
-    → firstTurn (now (c .before .before .before .before .before .before .before .before .before .before .args .bytes)) (c .before .before .before .before .before .loop .at) ≡ gave (c .before .next .given .0 .0)
+    → firstTurn (now (c .before .before .before .before .before .before .before .before .before .before .args .bytes)) (4 * c .before .before .before .before .before .loop .word) ≡ gave (4 * c .before .next .given .0 .0)
 goes c = sym (c .before .before .before .turn-at .ensures) ∙ ap saidTurn (c .before .next .given .1)
 
 loop-less : tie.Need-loop-less Inv-loop μ-loop
 loop-less c = omega (arith, turn-on _ _ _ (goes c))
 
 loop-again : tie.Need-loop-again Inv-loop μ-loop
-loop-again c =
-    let l = c .before .before .before .before .before .loop in
-    let on = pass-next (l .inv .0) _ (l .at) _ (c .before .before .before .before .loop-test .taken) (l .inv .1 .0) (goes c) in
-    (on .0, (on .1 .0, sym (on .1 .1) ∙ l .inv .1 .1))
+loop-again c = passing-next _ (omega arith) (goes c) (c .before .before .before .before .before .loop .inv)
 
 enum-known-r : tie.Need-enum-known-r Inv-loop μ-loop
 enum-known-r c = search needs
 
 returns-3 : tie.Need-returns-3 Inv-loop μ-loop
-returns-3 c =
-    let l = c .before .before .before .before .before .loop in
-    sym (pass-no (l .inv .0) _ (l .at) _ _ (c .before .before .before .before .loop-test .taken) (l .inv .1 .0)
-    (sym (c .before .before .before .turn-at .ensures) ∙ ap saidTurn (c .before .r .given .1))) ∙ l .inv .1 .1
+returns-3 c = sym (passing-no _ _ (omega arith) (sym (c .before .before .before .turn-at .ensures) ∙ ap saidTurn (c .before .r .given .1)) (c .before .before .before .before .before .loop .inv))
+
+mul-if3 : tie.Need-mul-if3 Inv-loop μ-loop
+mul-if3 c = search needs
+
+mul-t14 : tie.Need-mul-t14 Inv-loop μ-loop
+mul-t14 c = search needs
+
+add-t15 : tie.Need-add-t15 Inv-loop μ-loop
+add-t15 c = search needs
 
 returns-4 : tie.Need-returns-4 Inv-loop μ-loop
-returns-4 c =
-    let l = c .before .loop in
-    sym (pass-end (l .inv .0) _ (l .at) (c .loop-test .left)) ∙ l .inv .1 .1
+returns-4 c = sym (passing-no _ _ (c .if3 .taken) (turn-short _ _ (omega arith)) (c .before .before .loop .inv))
+
+returns-5 : tie.Need-returns-5 Inv-loop μ-loop
+returns-5 c = sym (passing-end (c .if3 .left) (c .before .before .loop .inv))
 
 pub parse-spec : {M : Type 1} → statement M
 parse-spec =
@@ -86,4 +87,8 @@ parse-spec =
     loop-again
     enum-known-r
     returns-3
-    returns-4)
+    mul-if3
+    mul-t14
+    add-t15
+    returns-4
+    returns-5)

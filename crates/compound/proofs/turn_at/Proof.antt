@@ -1,69 +1,75 @@
--- Each refusal comes where its test comes; the first packet's version is the caller's to have tested.
-use borrow.Author.Tests.{lt-ltb, le-ltb, eq-eqb, ne-eqb}
-use Rattle.utils.specs.Laws.{rest-whole}
-use Rattle.compound.specs.Pass.{firstTurn}
+-- Each answer comes where its test comes; the header is there, and the first version is 2, as the caller has tested.
+use Prim.Native.Nat.{_+_, _*_}
+use mathlib.Core.Path.{_≡_, sym}
+use native.Mathlib.Omega.{arith}
+use denote.Ref.{now}
+use Rattle.compound.specs.Pass.{endOf}
+use Rattle.compound.specs.Laws.{turn-past, turn-plain, turn-padded, turn-last}
 use borrow.Author.Needs.{needs}
 use Rattle.compound.proofs.turn_at.Statement.{statement}
 use Rattle.compound.proofs.turn_at.Tie as tie
 
-add-if1 : tie.Need-add-if1
-add-if1 c = search needs
+-- the packet's end, counted in words
+ends : (c : tie.After-words-behind) → 4 * (c .before .before .args .word + 1 + c .words-behind .result) ≡ endOf (now (c .before .before .args .bytes)) (4 * c .before .before .args .word)
+ends c = omega (arith, c .words-behind .ensures .ends)
 
-add-t8 : tie.Need-add-t8
-add-t8 c = search needs
+mul-at : tie.Need-mul-at
+mul-at c = search needs
 
-returns : tie.Need-returns
-unfolding firstTurn
-returns c = simp (lt-ltb _ _ (c .if1 .taken))
-
-sub-packet : tie.Need-sub-packet
-sub-packet c = search needs
-
-part-packet-start : tie.Need-part-packet-start
-part-packet-start c = search needs
-
-part-packet-end : tie.Need-part-packet-end
-part-packet-end c = search needs
-
-length-of-requires : tie.Need-length-of-requires
-length-of-requires c κs = search needs
+words-behind-requires : tie.Need-words-behind-requires
+words-behind-requires c κs = search needs
 
 add-next : tie.Need-add-next
 add-next c = search needs
 
-returns-2 : tie.Need-returns-2
-unfolding firstTurn
-returns-2 c = simp (le-ltb _ _ (c .before .before .before .if1 .left), c .before .before .before .before .before .pre .1, ← (rw rest-whole at (c .before .length-of .ensures .0)), lt-ltb _ _ (c .if2 .taken))
+add-next-2 : tie.Need-add-next-2
+add-next-2 c = search needs
 
-padding-bit-of-requires : tie.Need-padding-bit-of-requires
-padding-bit-of-requires c κs = search needs
+sub-if1 : tie.Need-sub-if1
+sub-if1 c = search needs
+
+mul-t10 : tie.Need-mul-t10
+mul-t10 c = search needs
+
+returns : tie.Need-returns
+returns c =
+    let a = c .before .before .before in
+    sym (turn-past (now (a .args .bytes)) _ _ (ends (c .before)) (a .pre .0) (a .pre .1) (omega arith))
+
+shared-slice-read-if2 : tie.Need-shared-slice-read-if2
+shared-slice-read-if2 c = search needs
+
+returns-2 : tie.Need-returns-2
+returns-2 c =
+    let a = c .before .before .before .before .before in
+    sym (turn-plain (now (a .args .bytes)) _ _ (ends (c .before .before .before)) (a .pre .0) (a .pre .1) (omega arith) (c .if2 .taken))
+
+mul-if3 : tie.Need-mul-if3
+mul-if3 c = search needs
 
 returns-3 : tie.Need-returns-3
-unfolding firstTurn
-returns-3 c = simp (le-ltb _ _ (c .before .before .before .before .before .if1 .left), c .before .before .before .before .before .before .before .pre .1, ← (rw rest-whole at (c .before .before .before .length-of .ensures .0)), le-ltb _ _ (c .before .before .if2 .left), ← (rw rest-whole at (c .before .padding-bit-of .ensures)), eq-eqb _ _ (c .if3 .taken))
+returns-3 c =
+    let a = c .before .before .before .before .before .before in
+    sym (turn-padded (now (a .args .bytes)) _ _ (ends (c .before .before .before .before)) (a .pre .0) (a .pre .1) (c .if3 .taken) (c .before .if2 .left))
 
 returns-4 : tie.Need-returns-4
-unfolding firstTurn
-returns-4 c = simp (le-ltb _ _ (c .before .before .before .before .before .before .if1 .left), c .before .before .before .before .before .before .before .before .pre .1, ← (rw rest-whole at (c .before .before .before .before .length-of .ensures .0)), le-ltb _ _ (c .before .before .before .if2 .left), ← (rw rest-whole at (c .before .before .padding-bit-of .ensures)), ne-eqb _ _ (c .before .if3 .left), lt-ltb _ _ (c .if4 .taken))
-
-returns-5 : tie.Need-returns-5
-unfolding firstTurn
-returns-5 c = simp (le-ltb _ _ (c .before .before .before .before .before .before .if1 .left), c .before .before .before .before .before .before .before .before .pre .1, ← (rw rest-whole at (c .before .before .before .before .length-of .ensures .0)), le-ltb _ _ (c .before .before .before .if2 .left), ← (rw rest-whole at (c .before .before .padding-bit-of .ensures)), ne-eqb _ _ (c .before .if3 .left), le-ltb _ _ (c .if4 .left))
+returns-4 c =
+    let a = c .before .before .before .before .before .before in
+    sym (turn-last (now (a .args .bytes)) _ _ (ends (c .before .before .before .before)) (a .pre .0) (a .pre .1) (omega arith) (c .if3 .left) (c .before .if2 .left))
 
 pub turn-at-spec : {M : Type 1} → statement M
 turn-at-spec =
     tie.close
     (tie.spec
-    add-if1
-    add-t8
-    returns
-    sub-packet
-    part-packet-start
-    part-packet-end
-    length-of-requires
+    mul-at
+    words-behind-requires
     add-next
+    add-next-2
+    sub-if1
+    mul-t10
+    returns
+    shared-slice-read-if2
     returns-2
-    padding-bit-of-requires
+    mul-if3
     returns-3
-    returns-4
-    returns-5)
+    returns-4)
