@@ -1,4 +1,4 @@
--- Laws of one turn of the pass, of the pass, and of one step of the walk: what callers use instead of the definitions' text.
+-- Laws of one packet, of one turn of the pass, of the pass, and of one step of the walk: what callers use instead of the definitions' text.
 use Prim.Native.Nat.{ℕ, zero, suc, _+_, _*_, _-_, _/_, _%_, _≤_, _<_}
 use mathlib.Core.List.{List, [], _∷_}
 use mathlib.Core.Path.{_≡_, refl, sym, _∙_}
@@ -11,9 +11,16 @@ use native.Mathlib.Nat.{add-zero}
 use lib.ListN.{length, getD, drop}
 use lib.Seq.{getD-drop}
 use Rattle.refusal.specs.Outcome.{gave, refused, refuse}
-use Rattle.utils.specs.Header.{versionOf, paddingBitOf}
+use Rattle.utils.specs.Header.{versionOf, paddingBitOf, lengthOf}
+use Rattle.utils.specs.Check.{ownLength}
+use Rattle.compound.specs.Unknown.{unknown}
 use Rattle.compound.specs.Pass.{endOf, firstTurn, passFrom, firstPass}
 use Rattle.compound.specs.Walk.{walkStep, step, over, packet, last}
+
+-- one packet of version 2 that is as long as it says is accepted
+pub unknown-whole : (bytes : List ℕ) → 4 ≤ length bytes → versionOf bytes ≡ 2 → lengthOf bytes ≡ length bytes → unknown bytes ≡ gave tt
+unfolding unknown ownLength
+unknown-whole bytes header two whole = simp (le-ltb (length bytes) 4 header, eq-eqb (versionOf bytes) 2 two, whole, le-ltb (length bytes) (length bytes) (omega arith))
 
 -- the header's fields of the packet that starts at an offset, read off the whole bytes
 pub version-at : (bytes : List ℕ) (at : ℕ) → versionOf (drop at bytes) ≡ getD bytes at 0 / 64

@@ -1,3 +1,4 @@
 pub mod Bytes
 pub mod After
 pub mod Laws
+pub mod Unique

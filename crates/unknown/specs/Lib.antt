@@ -1,4 +1,5 @@
 pub mod Packet
 pub mod Write
 pub mod Laws
+pub mod Back
 pub mod Unique
