@@ -60,7 +60,10 @@ fn main() {
     say_step(second, 0);
     say_step(second, 4);
     say_step(second, 8);
-    say_parse(b"A0 CB 00 00 80 CB 00 00", b"\xa0\xcb\x00\x00\x80\xcb\x00\x00");
+    say_parse(
+        b"A0 CB 00 00 80 CB 00 00",
+        b"\xa0\xcb\x00\x00\x80\xcb\x00\x00",
+    );
     say_parse(b"80 CB 00 01", b"\x80\xcb\x00\x01");
     say_parse(b"80 CB 00 00 80", b"\x80\xcb\x00\x00\x80");
     say_parse(b"00 CB 00 01", b"\x00\xcb\x00\x01");

@@ -36,5 +36,5 @@ examples =
       padding-in-the-middle = refl;
       cut = refl;
       cut-header = refl;
-      version-first = refl
+      version-first = refl;
     }

@@ -1,3 +1,4 @@
+-- The check, as a struct.
 use borrow.Author.Needs.{needs}
 use Rattle.exports.proofs.bog_check_packet.Statement.{statement}
 use Rattle.exports.proofs.bog_check_packet.Tie as tie

@@ -1,3 +1,4 @@
+-- The field, as a struct.
 use borrow.Author.Needs.{needs}
 use Rattle.exports.proofs.bog_version.Statement.{statement}
 use Rattle.exports.proofs.bog_version.Tie as tie

@@ -1,3 +1,4 @@
+-- What fits is all that counts; it goes through the array where the array holds it.
 use Prim.Native.Nat.{_≤_}
 use mathlib.Core.Path.{_∙_}
 use native.Mathlib.Omega.{arith}

@@ -1,3 +1,4 @@
+-- What is left of the bytes, stored from here, makes the whole.
 use Prim.Native.Nat.{_-_}
 use borrow.Author.Needs.{needs}
 use lib.ListN.{take}

@@ -1,3 +1,4 @@
+-- What was copied to the array stands at its front.
 use mathlib.Core.Path.{_∙_}
 use lib.ListN.{take}
 use lib.Seq.{length-take-le}

@@ -1,3 +1,4 @@
+-- Two bytes, one behind the other; past the end both fall away.
 use mathlib.Core.Path.{refl, sym}
 use denote.Ref.{now}
 use Rattle.lent.specs.Bytes.{be16Bytes}

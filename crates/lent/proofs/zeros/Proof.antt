@@ -1,3 +1,4 @@
+-- What is left of the zeros, stored from here, makes the whole.
 use Prim.Native.Nat.{_-_}
 use mathlib.Core.Path.{_∙_}
 use denote.Ref.{now}

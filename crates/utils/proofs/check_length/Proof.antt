@@ -1,3 +1,4 @@
+-- Each refusal comes where its test comes.
 use borrow.Author.Tests.{lt-ltb, le-ltb}
 use Rattle.utils.specs.Check.{ownLength}
 use borrow.Author.Needs.{needs}

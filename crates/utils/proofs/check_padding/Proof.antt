@@ -1,3 +1,4 @@
+-- Each answer comes where its test comes.
 use borrow.Author.Tests.{eq-eqb, ne-eqb}
 use Rattle.utils.specs.Check.{ownPadding}
 use borrow.Author.Needs.{needs}

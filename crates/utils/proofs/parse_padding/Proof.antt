@@ -1,3 +1,4 @@
+-- Each answer comes where its test comes.
 use borrow.Author.Tests.{lt-ltb, le-ltb, eq-eqb, ne-eqb}
 use Rattle.utils.specs.Check.{paddingByte}
 use borrow.Author.Needs.{needs}
