@@ -1,5 +1,6 @@
 /*
- * bogslipper: reading and writing of RTCP headers and compounds. For C and C++.
+ * bogslipper: reading and writing of RTCP headers, compounds and generic NACK.
+ * For C and C++.
  *
  * Every call answers one bog_said. Number 0 is an answer; any other number is
  * a refusal of this table. Where several refusals apply, the first one in the
@@ -115,6 +116,29 @@ bog_said bog_walk_step(const uint8_t *data, size_t n, uint64_t offset);
  */
 bog_said bog_unknown_write(uint8_t count, uint8_t type, const uint8_t *body, size_t body_n,
                            uint8_t padding, uint8_t *out, size_t out_n);
+
+/*
+ * Generic NACK (RFC 4585, 6.2.1).
+ * A store of 8,192 bytes is a set of numbers: number n at byte n / 8, bit
+ * n mod 8, bit 0 worth 1. The caller lends zeroed bytes for the empty set.
+ */
+
+/* Adds a number to a store. Values: none. Refusals: 16. */
+bog_said bog_nack_add(uint8_t *store, size_t store_n, uint16_t number);
+
+/*
+ * Lists the numbers of NACK entries in their order, repeats included; 1 to 3
+ * trailing bytes are ignored. Values: numbers listed.
+ * Refusals: 15 (list places).
+ */
+bog_said bog_nack_read(const uint8_t *data, size_t n, uint16_t *list, size_t list_n);
+
+/*
+ * Writes a store's numbers as entries of 4 bytes, ascending, none passing
+ * 65,535; the empty set writes nothing. Values: bytes written, at most 15,424.
+ * Refusals: 16, 15 (bytes).
+ */
+bog_said bog_nack_write(const uint8_t *store, size_t store_n, uint8_t *out, size_t out_n);
 
 #ifdef __cplusplus
 }

@@ -78,11 +78,32 @@ static void use_unknown_write(void)
     check("write, empty body", says(bog_unknown_write(0, 0, NULL, 0, 0, out, 12), 0, 4, 0, 0, 0, 0));
 }
 
+static void use_nack(void)
+{
+    static uint8_t store[8192];
+    const uint8_t entries[8] = {0, 0, 0x80, 0, 0xFF, 0xFF, 0, 0};
+    const uint16_t numbers[3] = {0, 16, 65535};
+    uint8_t out[8] = {0};
+    uint16_t list[3] = {0};
+    int i;
+
+    for (i = 0; i < 3; i++)
+        check("add", says(bog_nack_add(store, 8192, numbers[i]), 0, 0, 0, 0, 0, 0));
+    check("add, store", says(bog_nack_add(store, 8191, 0), 16, 8191, 0, 0, 0, 0));
+    check("nack write", says(bog_nack_write(store, 8192, out, 8), 0, 8, 0, 0, 0, 0));
+    check("nack write, bytes", same(out, entries, 8));
+    check("nack write, room", says(bog_nack_write(store, 8192, out, 7), 15, 8, 7, 0, 0, 0));
+    check("nack read", says(bog_nack_read(entries, 8, list, 3), 0, 3, 0, 0, 0, 0));
+    check("nack read, list", same(list, numbers, sizeof list));
+    check("nack read, room", says(bog_nack_read(entries, 8, list, 2), 15, 3, 2, 0, 0, 0));
+}
+
 int main(void)
 {
     use_header();
     use_compound();
     use_unknown_write();
+    use_nack();
     printf("c: %d checks, %d failures\n", checks, failures);
     return failures != 0;
 }

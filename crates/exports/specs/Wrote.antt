@@ -1,14 +1,35 @@
--- What the exported writers promise: the answer, and the whole lent buffer.
+-- What the exported calls promise that change lent memory: the answer, and the whole memory.
 use Prim.Native.Nat.{ℕ}
 use mathlib.Core.List.{List}
 use mathlib.Core.Path.{_≡_}
+use lib.IntN.{ℤ}
 use lib.ListN.{length}
-use Rattle.lent.specs.After.{after}
+use lib.Seq.{sets}
+use Rattle.refusal.specs.Outcome.{Outcome}
+use Rattle.lent.specs.After.{held, over}
 use Rattle.unknown.specs.Packet.{packetBytes}
 use Rattle.unknown.specs.Write.{written}
-use Rattle.exports.specs.Says.{saidOf, number}
+use Rattle.nack_store.specs.Bits.{added}
+use Rattle.nack_store.specs.Promise.{ofStore, sized}
+use Rattle.nack.specs.Entries.{readNack, nackBytes}
+use Rattle.nack.specs.Promise.{intoRoom}
+use Rattle.exports.specs.Says.{saidOf, nothing, number}
 use Rattle.exports.specs.declared.Said.{Said}
 
-pub record WroteUnknown (count type : ℕ) (body : List ℕ) (padding : ℕ) (old : List ℕ) (answer : Said) (new : List ℕ) : Type 0 where
-  pub said : answer ≡ saidOf (number (written count (length body) padding (length old)))
-  pub holds : new ≡ after (written count (length body) padding (length old)) (packetBytes count type body padding) old
+-- an outcome as the struct says it, and the memory after it: `new` after an answer, what it held after a refusal
+pub record Wrote {A B : Type 0} (say : Outcome A → Outcome (List ℤ)) (outcome : Outcome A) (new old : List B) (answer : Said) (memory : List B) : Type 0 where
+  pub said : answer ≡ saidOf (say outcome)
+  pub holds : memory ≡ held outcome new old
+
+abbrev pub WroteUnknown : ℕ → ℕ → List ℕ → ℕ → List ℕ → Said → List ℕ → Type 0
+WroteUnknown count type body padding old =
+    Wrote number (written count (length body) padding (length old)) (over (packetBytes count type body padding) old) old
+
+abbrev pub AddedNack : List ℕ → ℕ → Said → List ℕ → Type 0
+AddedNack store n = Wrote nothing (sized store) (added store n) store
+
+abbrev pub ReadNack : List ℕ → List ℕ → Said → List ℕ → Type 0
+ReadNack bytes list = Wrote number (intoRoom (length (readNack bytes)) (length list)) (sets list 0 (readNack bytes)) list
+
+abbrev pub WroteNack : List ℕ → List ℕ → Said → List ℕ → Type 0
+WroteNack store out = Wrote number (ofStore store (intoRoom (length (nackBytes store)) (length out))) (sets out 0 (nackBytes store)) out

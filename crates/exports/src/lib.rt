@@ -1,6 +1,7 @@
 // The C interface, as include/bogslipper.h declares it: the proved functions under plain names, each answer a struct of
 // numbers. An export promises what the function behind it promises.
 use compound::Found;
+use kinds::Seq;
 use refusal::Checked;
 use refusal::Number;
 use refusal::Refusal;
@@ -14,7 +15,7 @@ ghost use Rattle.compound.specs.Unknown.{unknown};
 ghost use Rattle.compound.specs.Pass.{firstPass};
 ghost use Rattle.compound.specs.Walk.{walkStep};
 ghost use Rattle.exports.specs.Says.{saidOf, nothing, number, padding, walk};
-ghost use Rattle.exports.specs.Wrote.{WroteUnknown};
+ghost use Rattle.exports.specs.Wrote.{WroteUnknown, AddedNack, ReadNack, WroteNack};
 
 // Number 0 and the answer's values, or a refusal's number and its values; the rest 0.
 #[repr(C)]
@@ -162,4 +163,25 @@ pub extern "C" fn bog_unknown_write(
     ensures { λ s. ⌜ WroteUnknown count «packet_type» (now (body .entry)) padding (now (out .entry)) s (now (out .exit)) ⌝ }
 {
     said_number(unknown::write(count, packet_type, body, padding, out))
+}
+
+#[no_mangle]
+pub extern "C" fn bog_nack_add(store: &mut [u8], number: u16) -> Said
+    ensures { λ s. ⌜ AddedNack (now (store .entry)) number s (now (store .exit)) ⌝ }
+{
+    said_checked(nack_store::add(store, Seq(number)))
+}
+
+#[no_mangle]
+pub extern "C" fn bog_nack_read(bytes: &[u8], list: &mut [u16]) -> Said
+    ensures { λ s. ⌜ ReadNack (now (bytes .entry)) (now (list .entry)) s (now (list .exit)) ⌝ }
+{
+    said_number(nack_read::read(bytes, list))
+}
+
+#[no_mangle]
+pub extern "C" fn bog_nack_write(store: &[u8], out: &mut [u8]) -> Said
+    ensures { λ s. ⌜ WroteNack (now (store .entry)) (now (out .entry)) s (now (out .exit)) ⌝ }
+{
+    said_number(nack_write::write(store, out))
 }

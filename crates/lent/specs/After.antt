@@ -1,4 +1,4 @@
--- What a lent buffer or list holds after a call that fills its front.
+-- What a lent buffer or list holds after a call.
 use Prim.Native.Nat.{_≤_}
 use mathlib.Core.Path.{_≡_}
 use mathlib.Core.List.{List, _++_}
@@ -8,14 +8,18 @@ use lib.ListN.{length, drop}
 use lib.Seq.{sets, sets-eq}
 use Rattle.refusal.specs.Outcome.{Outcome, gave, refused}
 
+-- after an answer what the memory is to hold; after a refusal what it held
+abbrev pub held : {A B : Type 0} → Outcome B → List A → List A → List A
+held (gave answer) new old = new
+held (refused number values) new old = old
+
 -- elements laid over the front of what was there
 abbrev pub over : {A : Type 0} → List A → List A → List A
 over front old = front ++ drop (length front) old
 
--- after an answer the front; after a refusal all that was there
+-- a call that fills the front
 abbrev pub after : {A B : Type 0} → Outcome B → List A → List A → List A
-after (gave answer) front old = over front old
-after (refused number values) front old = old
+after outcome front old = held outcome (over front old) old
 
 -- elements that fit, stored one by one from the start on
 pub sets-over : {A : Type 0} (front old : List A) → length front ≤ length old → sets old 0 front ≡ over front old

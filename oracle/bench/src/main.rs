@@ -1,6 +1,7 @@
 //! Measures our library over its C interface beside the Rust crate, row by row, in one run.
 
 mod compound;
+mod nack;
 mod row;
 
 use std::process::ExitCode;
@@ -12,6 +13,7 @@ type Part = (&'static str, fn() -> Vec<Row>);
 
 const PARTS: &[Part] = &[
     ("compound", compound::rows),
+    ("nack", nack::rows),
 ];
 
 const HELP: &str = "\

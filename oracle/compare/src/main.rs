@@ -3,6 +3,7 @@
 mod case;
 mod compound;
 mod header;
+mod nack;
 
 use std::process::ExitCode;
 use std::time::Instant;
@@ -15,6 +16,7 @@ type Part = (&'static str, fn(&Effort) -> Vec<Book>);
 const PARTS: &[Part] = &[
     ("header", header::compare),
     ("compound", compound::compare),
+    ("nack", nack::compare),
 ];
 
 const HELP: &str = "\

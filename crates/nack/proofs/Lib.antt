@@ -1,0 +1,4 @@
+pub mod Masks
+pub mod Opens
+pub mod Back
+pub mod Rooms

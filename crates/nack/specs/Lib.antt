@@ -1,0 +1,4 @@
+pub mod Entries
+pub mod Promise
+pub mod Unique
+pub mod Examples

@@ -1,0 +1,6 @@
+pub mod Sets
+pub mod Bytes
+pub mod Store
+pub mod Numbers
+pub mod Sizes
+pub mod Counting
