@@ -3,6 +3,7 @@ use Prim.Native.Nat.{ℕ}
 use mathlib.Core.List.{List, [], _∷_}
 use mathlib.Core.Path.{_≡_, refl}
 use Rattle.refusal.specs.Outcome.{gave, refuse}
+use Rattle.nack.specs.Examples.{Fixed, fixed}
 use Rattle.compound.specs.Pass.{firstTurn, passFrom, firstPass}
 use Rattle.compound.specs.Walk.{step, packet, over, walkStep}
 
@@ -11,6 +12,7 @@ abbrev secondVersion1 : List ℕ
 secondVersion1 = 128 ∷ 203 ∷ 0 ∷ 0 ∷ 64 ∷ 203 ∷ 0 ∷ 0 ∷ []
 
 pub record Examples : Type 0 where
+  -- ---- compounds
   -- the first pass looks at the first version only; the walk gives one packet, then 2 with 1
   pub second-version-passes : firstPass secondVersion1 ≡ gave tt
   pub second-version-first : walkStep secondVersion1 0 ≡ step (gave packet) 4
@@ -24,6 +26,8 @@ pub record Examples : Type 0 where
   pub cut-header : firstPass (128 ∷ 203 ∷ 0 ∷ 0 ∷ 128 ∷ []) ≡ refuse 1 (8 ∷ 5 ∷ [])
   -- 00 CB 00 01: the version comes before the length
   pub version-first : firstPass (0 ∷ 203 ∷ 0 ∷ 1 ∷ []) ≡ refuse 2 (0 ∷ [])
+  -- ---- generic NACK
+  pub nack : Fixed
 
 pub examples : Examples
 unfolding firstTurn passFrom firstPass walkStep
@@ -37,4 +41,5 @@ examples =
       cut = refl;
       cut-header = refl;
       version-first = refl;
+      nack = fixed;
     }
