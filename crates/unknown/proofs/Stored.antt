@@ -18,9 +18,8 @@ pub behind : (old now then front more : List ℕ) (at from : ℕ) → now ≡ se
 behind old now then front more at from stands end stored = stored ∙ rw (stands, end) (sets-append old at front more)
 
 -- the header's bytes one after the other, and the body
-pub head-and-body : (old one two four all body : List ℕ) (a b w : ℕ) → one ≡ sets old 0 (a ∷ []) → two ≡ sets one 1 (b ∷ []) → four ≡ sets two 2 (be16Bytes w)
-    → all ≡ sets four 4 body → all ≡ sets old 0 ((a ∷ b ∷ be16Bytes w) ++ body)
-head-and-body old one two four all body a b w first second third last = last ∙ rw (third, second, first) (sets-append old 0 (a ∷ b ∷ be16Bytes w) body)
+pub head-and-body : (old then body : List ℕ) (a b w field : ℕ) → w ≡ field → then ≡ sets (sets old 0 (a ∷ b ∷ be16Bytes w)) 4 body → then ≡ sets old 0 ((a ∷ b ∷ be16Bytes field) ++ body)
+head-and-body old then body a b w field same stored = rw same at (stored ∙ sets-append old 0 (a ∷ b ∷ be16Bytes w) body)
 
 pub no-padding : (old : List ℕ) (at padding : ℕ) → padding ≡ 0 → old ≡ sets old at (padBytes padding)
 unfolding padBytes

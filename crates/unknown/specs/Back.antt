@@ -1,21 +1,21 @@
 -- The way back: a packet that was written is accepted by `Unknown::parse`, and its fields are those given.
-use Prim.Native.Nat.{ℕ, _+_, _*_, _-_, _/_, _%_, _≤_, _<_}
+use Prim.Native.Nat.{ℕ, _+_, _-_, _/_, _%_, _≤_}
 use mathlib.Core.List.{List, [], _∷_, _++_, append-assoc}
-use mathlib.Core.Path.{_≡_, refl, sym, ap, _∙_}
+use mathlib.Core.Path.{_≡_, refl, ap, _∙_}
 use mathlib.Core.Bool.{Bool, true, false, cond, not, _||_}
 use native.Mathlib.Omega.{arith}
-use borrow.Author.Tests.{eqb-true, eqb-false, ltb-false, le-ltb, eq-eqb, ne-eqb}
+use borrow.Author.Tests.{eqb-true, eqb-false, ltb-false, le-ltb, ne-eqb}
 use lib.Dec.{eqb, ltb}
 use lib.ListN.{length, getD, take, drop, length-append}
 use lib.Seq.{take-append-seam, getD-at}
-use Rattle.refusal.specs.Outcome.{Outcome, gave, refuse}
+use Rattle.refusal.specs.Outcome.{gave, refuse}
 use Rattle.lent.specs.Bytes.{zeroBytes}
 use Rattle.lent.specs.Laws.{length-zeroBytes}
 use Rattle.utils.specs.Header.{versionOf, paddingBitOf, countOf, typeOf, lengthOf}
-use Rattle.utils.specs.Check.{lastByteOf, ownLength, Padding, clear, byte, paddingByte}
+use Rattle.utils.specs.Check.{lastByteOf, Padding, clear, byte, paddingByte}
 use Rattle.compound.specs.Unknown.{unknown}
 use Rattle.compound.specs.Laws.{unknown-whole}
-use Rattle.unknown.specs.Packet.{sizeOf, lengthField, firstByte, padBytes, bodyBytes, packetBytes}
+use Rattle.unknown.specs.Packet.{sizeOf, firstByte, padBytes, bodyBytes, packetBytes}
 use Rattle.unknown.specs.Write.{written}
 use Rattle.unknown.specs.Laws.{length-bodyBytes, length-packetBytes}
 

@@ -25,12 +25,14 @@ fn first_byte(count: u8, padding: u8) -> u8
 
 // The header and the body.
 fn put_body(count: u8, packet_type: u8, body: &[u8], padding: u8, out: &mut [u8])
-    requires { ⌜ (count ≤ 31) × (sizeOf (length (now body)) padding ≤ 262144) ⌝ }
+    requires { ⌜ (count ≤ 31) × (sizeOf (length (now body)) padding ≤ 262144) × (sizeOf (length (now body)) padding ≤ length (now out)) ⌝ }
     ensures { λ _. ⌜ now (out .exit) ≡ sets (now (out .entry)) 0 (bodyBytes count «packet_type» (now (body .entry)) padding) ⌝ }
 {
-    lent::put(out, 0, first_byte(count, padding));
-    lent::put(out, 1, packet_type);
-    lent::put16(out, 2, ((4 + body.len() + padding as usize) / 4 - 1) as u16);
+    let behind = (body.len() + padding as usize) / 4;
+    out[0] = first_byte(count, padding);
+    out[1] = packet_type;
+    out[2] = (behind / 256) as u8;
+    out[3] = (behind % 256) as u8;
     lent::copy(out, 4, body);
 }
 
