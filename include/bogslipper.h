@@ -1,6 +1,6 @@
 /*
- * bogslipper: reading and writing of RTCP headers, compounds and generic NACK.
- * For C and C++.
+ * bogslipper: reading and writing of RTCP headers, compounds, generic NACK and
+ * transport-wide congestion control feedback (TWCC). For C and C++.
  *
  * Every call answers one bog_said. Number 0 is an answer; any other number is
  * a refusal of this table. Where several refusals apply, the first one in the
@@ -139,6 +139,30 @@ bog_said bog_nack_read(const uint8_t *data, size_t n, uint16_t *list, size_t lis
  * Refusals: 16, 15 (bytes).
  */
 bog_said bog_nack_write(const uint8_t *store, size_t store_n, uint8_t *out, size_t out_n);
+
+/*
+ * TWCC blocks (draft-holmer-rmcat-transport-wide-cc-extensions-01).
+ * A status word: -32,768 to 32,767 a delta in ticks of 250 microseconds,
+ * 32,768 not received. Reading also gives 32,769, an entry without its delta,
+ * and 32,770, a reserved symbol.
+ */
+
+/*
+ * Lists the status words of a block; place k is packet base + k modulo 65,536.
+ * Values: base, status count, reference time, feedback count, entries listed.
+ * Refusals: 1 (8 bytes), 15 (list places).
+ */
+bog_said bog_twcc_read(const uint8_t *block, size_t n, int32_t *list, size_t list_n);
+
+/*
+ * Arrival times.
+ */
+
+/*
+ * The arrival of a received entry in ticks of 250 microseconds: reference
+ * time x 256 + delta. Values: tick (signed). Refusals: 10.
+ */
+bog_said bog_arrival(uint32_t time, int16_t delta);
 
 #ifdef __cplusplus
 }

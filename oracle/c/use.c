@@ -98,12 +98,32 @@ static void use_nack(void)
     check("nack read, room", says(bog_nack_read(entries, 8, list, 2), 15, 3, 2, 0, 0, 0));
 }
 
+static void use_twcc_read(void)
+{
+    const uint8_t block[11] = {0, 5, 0, 2, 0, 0, 1, 7, 0xF4, 0, 9};
+    const int32_t words[2] = {32770, 9};
+    int32_t list[2] = {0};
+
+    check("twcc read", says(bog_twcc_read(block, 11, list, 2), 0, 5, 2, 1, 7, 2));
+    check("twcc read, list", same(list, words, sizeof list));
+    check("twcc read, short", says(bog_twcc_read(block, 7, list, 2), 1, 8, 7, 0, 0, 0));
+}
+
+static void use_arrival(void)
+{
+    check("arrival", says(bog_arrival(1, 4), 0, 260, 0, 0, 0, 0));
+    check("arrival, below zero", says(bog_arrival(0, -1), 0, UINT64_MAX, 0, 0, 0, 0));
+    check("arrival, time", says(bog_arrival(16777216, 0), 10, 16777216, 0, 0, 0, 0));
+}
+
 int main(void)
 {
     use_header();
     use_compound();
     use_unknown_write();
     use_nack();
+    use_twcc_read();
+    use_arrival();
     printf("c: %d checks, %d failures\n", checks, failures);
     return failures != 0;
 }

@@ -6,6 +6,7 @@ use Rattle.refusal.specs.Outcome.{Outcome, gave, refused}
 use Rattle.refusal.specs.Told.{valueBits}
 use Rattle.utils.specs.Check.{Padding, clear, byte}
 use Rattle.compound.specs.Walk.{Met, over, packet, Step, step}
+use Rattle.twcc_read.specs.declared.Listed.{Listed}
 use Rattle.exports.specs.declared.Said.{Said}
 
 -- 0 for an answer, else the refusal's number
@@ -36,6 +37,9 @@ nothing = answered (λ _. [])
 unfoldable pub number : Outcome ℕ → Outcome (List ℤ)
 number = answered (λ n. pos n ∷ [])
 
+unfoldable pub signed : Outcome ℤ → Outcome (List ℤ)
+signed = answered (λ z. z ∷ [])
+
 -- 0 where the bit is clear; 1, byte
 abbrev pub paddingValues : Padding → List ℤ
 paddingValues clear = pos 0 ∷ []
@@ -51,3 +55,9 @@ walkValues at over next = pos 1 ∷ pos next ∷ []
 
 unfoldable pub walk : ℕ → Step → Outcome (List ℤ)
 walk at (step found next) = answered (λ met. walkValues at met next) found
+
+-- base, status count, reference time, feedback count, entries listed
+unfoldable pub listedBlock : Outcome Listed → Outcome (List ℤ)
+listedBlock =
+    answered
+    (λ l. pos (l .header .base .0) ∷ pos (l .header .statuses) ∷ pos (l .header .time .0) ∷ pos (l .header .feedback) ∷ pos (l .count) ∷ [])

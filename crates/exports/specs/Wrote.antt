@@ -13,7 +13,9 @@ use Rattle.nack_store.specs.Bits.{added}
 use Rattle.nack_store.specs.Promise.{ofStore, sized}
 use Rattle.nack.specs.Entries.{readNack, nackBytes}
 use Rattle.nack.specs.Promise.{intoRoom}
-use Rattle.exports.specs.Says.{saidOf, nothing, number}
+use Rattle.twcc.specs.Block.{listed}
+use Rattle.twcc_read.specs.Promise.{readAnswer}
+use Rattle.exports.specs.Says.{saidOf, nothing, number, listedBlock}
 use Rattle.exports.specs.declared.Said.{Said}
 
 -- an outcome as the struct says it, and the memory after it: `new` after an answer, what it held after a refusal
@@ -33,3 +35,6 @@ ReadNack bytes list = Wrote number (intoRoom (length (readNack bytes)) (length l
 
 abbrev pub WroteNack : List ℕ → List ℕ → Said → List ℕ → Type 0
 WroteNack store out = Wrote number (ofStore store (intoRoom (length (nackBytes store)) (length out))) (sets out 0 (nackBytes store)) out
+
+abbrev pub ReadTwcc : List ℕ → List ℤ → Said → List ℤ → Type 0
+ReadTwcc block list = Wrote listedBlock (readAnswer block (length list)) (over (listed block) list) list

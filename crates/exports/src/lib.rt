@@ -1,21 +1,26 @@
 // The C interface, as include/bogslipper.h declares it: the proved functions under plain names, each answer a struct of
 // numbers. An export promises what the function behind it promises.
+use arrival::Arrived;
 use compound::Found;
+use kinds::RefTime;
 use kinds::Seq;
 use refusal::Checked;
 use refusal::Number;
 use refusal::Refusal;
+use twcc_read::Reading;
 use utils::Padded;
 ghost use mathlib.Core.Path.{_≡_};
 ghost use Rattle.refusal.specs.Number.{no};
 ghost use Rattle.refusal.specs.Said.{saidChecked, saidNumber};
+ghost use Rattle.refusal.specs.Told.{bits64};
 ghost use Rattle.utils.specs.Header.{versionOf, paddingBitOf, countOf, typeOf, lengthOf};
 ghost use Rattle.utils.specs.Check.{field, paddingByte, checkPacket};
 ghost use Rattle.compound.specs.Unknown.{unknown};
 ghost use Rattle.compound.specs.Pass.{firstPass};
 ghost use Rattle.compound.specs.Walk.{walkStep};
-ghost use Rattle.exports.specs.Says.{saidOf, nothing, number, padding, walk};
-ghost use Rattle.exports.specs.Wrote.{WroteUnknown, AddedNack, ReadNack, WroteNack};
+ghost use Rattle.arrival.specs.Arrival.{arrivalOf};
+ghost use Rattle.exports.specs.Says.{saidOf, nothing, number, signed, padding, walk};
+ghost use Rattle.exports.specs.Wrote.{WroteUnknown, AddedNack, ReadNack, WroteNack, ReadTwcc};
 
 // Number 0 and the answer's values, or a refusal's number and its values; the rest 0.
 #[repr(C)]
@@ -184,4 +189,54 @@ pub extern "C" fn bog_nack_write(store: &[u8], out: &mut [u8]) -> Said
     ensures { λ s. ⌜ WroteNack (now (store .entry)) (now (out .entry)) s (now (out .exit)) ⌝ }
 {
     said_number(nack_write::write(store, out))
+}
+
+#[no_mangle]
+pub extern "C" fn bog_twcc_read(block: &[u8], list: &mut [i32]) -> Said
+    ensures { λ s. ⌜ ReadTwcc (now (block .entry)) (now (list .entry)) s (now (list .exit)) ⌝ }
+{
+    match twcc_read::read(block, list) {
+        Reading::Block(listed) => {
+            let count = listed.count;
+            let header = listed.header;
+            let base = header.base;
+            let time = header.time;
+            Said {
+                number: 0,
+                values: [
+                    base.0 as u64,
+                    header.statuses as u64,
+                    time.0 as u64,
+                    header.feedback as u64,
+                    count as u64,
+                ],
+            }
+        }
+        Reading::No(r) => refused(r),
+    }
+}
+
+// A signed number in two's complement.
+fn bits(t: i64) -> u64
+    ensures { λ r. ⌜ r ≡ bits64 t ⌝ }
+{
+    if t < 0 {
+        let k = (-1 - t) as u64;
+        18446744073709551615 - k
+    } else {
+        t as u64
+    }
+}
+
+#[no_mangle]
+pub extern "C" fn bog_arrival(time: u32, delta: i16) -> Said
+    ensures { λ s. ⌜ s ≡ saidOf (signed (arrivalOf time delta)) ⌝ }
+{
+    match arrival::arrival(RefTime(time), delta) {
+        Arrived::At(tick) => Said {
+            number: 0,
+            values: [bits(tick.0), 0, 0, 0, 0],
+        },
+        Arrived::No(r) => refused(r),
+    }
 }

@@ -3,6 +3,7 @@
 mod compound;
 mod nack;
 mod row;
+mod twcc_read;
 
 use std::process::ExitCode;
 
@@ -14,6 +15,7 @@ type Part = (&'static str, fn() -> Vec<Row>);
 const PARTS: &[Part] = &[
     ("compound", compound::rows),
     ("nack", nack::rows),
+    ("twcc_read", twcc_read::rows),
 ];
 
 const HELP: &str = "\

@@ -1,9 +1,11 @@
 //! Runs our library and the Rust crate on the same inputs and says where they disagree.
 
+mod arrival;
 mod case;
 mod compound;
 mod header;
 mod nack;
+mod twcc_read;
 
 use std::process::ExitCode;
 use std::time::Instant;
@@ -17,6 +19,8 @@ const PARTS: &[Part] = &[
     ("header", header::compare),
     ("compound", compound::compare),
     ("nack", nack::compare),
+    ("twcc_read", twcc_read::compare),
+    ("arrival", arrival::compare),
 ];
 
 const HELP: &str = "\

@@ -1,0 +1,23 @@
+// When a received packet arrived.
+use kinds::RefTime;
+use kinds::Tick;
+use refusal::Refusal;
+ghost use mathlib.Core.Path.{_≡_};
+ghost use Rattle.arrival.specs.Arrival.{saidArrived, arrivalOf};
+
+pub enum Arrived {
+    At(Tick),
+    No(Refusal),
+}
+
+// The arrival of a received entry from its block's reference time and its delta.
+pub fn arrival(time: RefTime, delta: i16) -> Arrived
+    ensures { λ r. ⌜ saidArrived r ≡ arrivalOf (time .0) delta ⌝ }
+{
+    let t = time.0;
+    if 16777215 < t {
+        return Arrived::No(Refusal::Time(t));
+    }
+    let start = (t * 256) as i64;
+    Arrived::At(Tick(start + (delta as i64)))
+}

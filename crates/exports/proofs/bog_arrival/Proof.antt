@@ -1,0 +1,52 @@
+-- By the cases of the answer; a signed number is handed on bit by bit.
+use mathlib.Core.Path.{_≡_, sym, ap, _∙_}
+use mir.Syntax.{w16, w64}
+use mir.Val.{toZ, ofZ}
+use mir.ValLaws.{toZ-ofZ}
+use Rattle.refusal.specs.Told.{bits64}
+use Rattle.arrival.specs.Arrival.{saidArrived, arrivalOf}
+use Rattle.exports.specs.Says.{saidOf, signed}
+use borrow.Author.Needs.{needs}
+use Rattle.exports.proofs.bog_arrival.Statement.{statement}
+use Rattle.exports.proofs.bog_arrival.Tie as tie
+
+comes : (c : tie.After-arrival) → saidArrived (c .arrival .result) ≡ arrivalOf (c .before .args .time) (c .before .args .delta)
+comes c = c .arrival .ensures ∙ ap (arrivalOf (c .before .args .time)) (toZ-ofZ w16 (c .before .args .delta) (c .before .fits .delta))
+
+arrival-requires : tie.Need-arrival-requires
+arrival-requires c κs = search needs
+
+enum-known-tick : tie.Need-enum-known-tick
+enum-known-tick c = search needs
+
+bits-requires : tie.Need-bits-requires
+bits-requires c κs = search needs
+
+enum-known-r : tie.Need-enum-known-r
+enum-known-r c = search needs
+
+refused-requires : tie.Need-refused-requires
+refused-requires c κs = search needs
+
+returns : tie.Need-returns
+unfolding saidOf signed
+returns c =
+    let tick = c .before .before .before .tick .given .0 .0 .0 in
+    let whole : bits64 (toZ w64 (ofZ w64 tick)) ≡ bits64 tick = ap bits64 (toZ-ofZ w64 tick (record { sfits = c .before .struct-told .given .0 .1 })) in
+    rw (sym (comes (c .before .before .before .before .before)) ∙ ap saidArrived (c .before .before .before .tick .given .1), c .bits .ensures, whole)
+
+returns-2 : tie.Need-returns-2
+unfolding signed
+returns-2 c = rw (sym (comes (c .before .before .before .before)) ∙ ap saidArrived (c .before .before .r .given .1)) (c .refused .ensures)
+
+pub bog-arrival-spec : {M : Type 1} → statement M
+bog-arrival-spec =
+    tie.close
+    (tie.spec
+    arrival-requires
+    enum-known-tick
+    bits-requires
+    enum-known-r
+    refused-requires
+    returns
+    returns-2)

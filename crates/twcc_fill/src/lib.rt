@@ -1,0 +1,292 @@
+// Filling a lent list with a block's status words, by a quick loop for each kind of chunk.
+use twcc_walk::Chunks;
+use twcc_walk::Deltas;
+use twcc_walk::Header;
+use twcc_walk::NextChunk;
+ghost use mathlib.Core.Path.{_≡_};
+ghost use mathlib.Core.List.{[], _∷_};
+ghost use Prim.Native.Nat.{_+_, _*_, _≤_, _<_};
+ghost use lib.ListN.{length, take, replicate};
+ghost use lib.Seq.{sets};
+ghost use Rattle.twcc.specs.Words.{bytesOf, wordOf};
+ghost use Rattle.twcc.specs.Chunks.{unpack, standsFor};
+ghost use Rattle.twcc_fill.specs.Filled.{Fillable, RunFillable, There, PairsThere, TwosThere, Filled, AllFillable, AllFilled};
+ghost use Rattle.twcc_fill.specs.Promise.{Fills};
+
+// The same word n times, from place k on.
+fn fill_same(list: &mut [i32], k: usize, n: usize, word: i32)
+    requires { ⌜ k + n ≤ length (now list) ⌝ }
+    ensures { λ _. ⌜ now (list .exit) ≡ sets (now (list .entry)) k (replicate n word) ⌝ }
+{
+    let mut j: usize = 0;
+    while j < n {
+        list[k + j] = word;
+        j = j + 1;
+    }
+}
+
+// A run of n small deltas, whose bytes are there.
+fn fill_small(block: &[u8], n: usize, from: usize, list: &mut [i32], k: usize)
+    requires { ⌜ There (now block) n from k (now list) ⌝ }
+    ensures { λ _. ⌜ Filled (now (block .entry)) (replicate n 1) from (from + n) k (now (list .entry)) (now (list .exit)) ⌝ }
+{
+    let mut j: usize = 0;
+    while j < n {
+        list[k + j] = block[from + j] as i32;
+        j = j + 1;
+    }
+}
+
+// A run of n large deltas, whose bytes are there.
+fn fill_pairs(block: &[u8], n: usize, from: usize, list: &mut [i32], k: usize)
+    requires { ⌜ PairsThere (now block) n from k (now list) ⌝ }
+    ensures { λ _. ⌜ Filled (now (block .entry)) (replicate n 2) from (from + 2 * n) k (now (list .entry)) (now (list .exit)) ⌝ }
+{
+    let mut j: usize = 0;
+    while j < n {
+        let at = from + 2 * j;
+        let word = twcc_walk::large(block[at], block[at + 1]);
+        list[k + j] = word;
+        j = j + 1;
+    }
+}
+
+// All words of another list, from place k on.
+fn copy_words(from: &[i32], list: &mut [i32], k: usize)
+    requires { ⌜ k + length (now from) ≤ length (now list) ⌝ }
+    ensures { λ _. ⌜ now (list .exit) ≡ sets (now (list .entry)) k (now (from .entry)) ⌝ }
+{
+    let mut j: usize = 0;
+    while j < from.len() {
+        let word = from[j];
+        list[k + j] = word;
+        j = j + 1;
+    }
+}
+
+// Eight large deltas by way of a local array: the compiler then makes and stores them all at once.
+fn fill_eight(block: &[u8], from: usize, list: &mut [i32], k: usize)
+    requires { ⌜ PairsThere (now block) 8 from k (now list) ⌝ }
+    ensures { λ _. ⌜ Filled (now (block .entry)) (replicate 8 2) from (from + 16) k (now (list .entry)) (now (list .exit)) ⌝ }
+{
+    let mut words = [0i32; 8];
+    fill_pairs(block, 8, from, &mut words, 0);
+    copy_words(&words, list, k);
+}
+
+// A run of n large deltas, whose bytes are there, eight at a time.
+fn fill_large(block: &[u8], n: usize, from: usize, list: &mut [i32], k: usize)
+    requires { ⌜ PairsThere (now block) n from k (now list) ⌝ }
+    ensures { λ _. ⌜ Filled (now (block .entry)) (replicate n 2) from (from + 2 * n) k (now (list .entry)) (now (list .exit)) ⌝ }
+{
+    let mut j: usize = 0;
+    while 8 <= n - j {
+        fill_eight(block, from + 2 * j, list, k + j);
+        j = j + 8;
+    }
+    fill_pairs(block, n - j, from + 2 * j, list, k + j);
+}
+
+// A run of small deltas: those that are there, then truncated ones.
+fn fill_small_run(block: &[u8], n: usize, from: usize, list: &mut [i32], k: usize) -> usize
+    requires { ⌜ RunFillable (now block) n from k (now list) ⌝ }
+    ensures { λ r. ⌜ Filled (now (block .entry)) (replicate n 1) from r k (now (list .entry)) (now (list .exit)) ⌝ }
+{
+    let there = block.len() - from;
+    if n <= there {
+        fill_small(block, n, from, list, k);
+        return from + n;
+    }
+    fill_small(block, there, from, list, k);
+    fill_same(list, k + there, n - there, 32769);
+    block.len()
+}
+
+// The same of large deltas; a lone last byte is eaten.
+fn fill_large_run(block: &[u8], n: usize, from: usize, list: &mut [i32], k: usize) -> usize
+    requires { ⌜ RunFillable (now block) n from k (now list) ⌝ }
+    ensures { λ r. ⌜ Filled (now (block .entry)) (replicate n 2) from r k (now (list .entry)) (now (list .exit)) ⌝ }
+{
+    let there = (block.len() - from) / 2;
+    if n <= there {
+        fill_large(block, n, from, list, k);
+        return from + 2 * n;
+    }
+    fill_large(block, there, from, list, k);
+    fill_same(list, k + there, n - there, 32769);
+    block.len()
+}
+
+// A run of any symbol.
+fn fill_run(block: &[u8], symbol: usize, n: usize, from: usize, list: &mut [i32], k: usize) -> usize
+    requires { ⌜ RunFillable (now block) n from k (now list) ⌝ }
+    ensures { λ r. ⌜ Filled (now (block .entry)) (replicate n symbol) from r k (now (list .entry)) (now (list .exit)) ⌝ }
+{
+    if symbol == 1 {
+        return fill_small_run(block, n, from, list, k);
+    }
+    if symbol == 2 {
+        return fill_large_run(block, n, from, list, k);
+    }
+    if symbol == 0 {
+        fill_same(list, k, n, 32768);
+        return from;
+    }
+    fill_same(list, k, n, 32770);
+    from
+}
+
+// The word of a one-bit symbol, with the next byte at hand.
+fn bit_word(symbol: usize, byte: u8) -> i32
+    requires { ⌜ symbol < 2 ⌝ }
+    ensures { λ r. ⌜ r ≡ wordOf symbol (byte ∷ []) ⌝ }
+{
+    if symbol == 1 { byte as i32 } else { 32768 }
+}
+
+// Fourteen one-bit symbols, where fourteen bytes are there: no test within.
+fn fill_ones(block: &[u8], chunk: usize, from: usize, list: &mut [i32], k: usize) -> usize
+    requires { ⌜ There (now block) 14 from k (now list) ⌝ }
+    ensures { λ r. ⌜ Filled (now (block .entry)) (unpack 2 14 chunk) from r k (now (list .entry)) (now (list .exit)) ⌝ }
+{
+    let mut p = from;
+    let mut j: usize = 0;
+    while j < 14 {
+        let symbol = (chunk >> (13 - j)) % 2;
+        let word = bit_word(symbol, block[p]);
+        list[k + j] = word;
+        p = p + symbol;
+        j = j + 1;
+    }
+    p
+}
+
+// The word of a two-bit symbol, with the next two bytes at hand.
+fn pair_word(symbol: usize, high: u8, low: u8) -> i32
+    ensures { λ r. ⌜ r ≡ wordOf symbol (high ∷ low ∷ []) ⌝ }
+{
+    let small = high as i32;
+    let large = twcc_walk::large(high, low);
+    if symbol == 0 {
+        return 32768;
+    }
+    if symbol == 1 {
+        return small;
+    }
+    if symbol == 2 {
+        return large;
+    }
+    32770
+}
+
+// The delta bytes of a symbol.
+fn eaten(symbol: usize) -> usize
+    ensures { λ r. ⌜ (r ≡ bytesOf symbol) × (r ≤ 2) ⌝ }
+{
+    if 2 < symbol { 0 } else { symbol }
+}
+
+// Seven two-bit symbols, where fourteen bytes are there.
+fn fill_twos(block: &[u8], chunk: usize, from: usize, list: &mut [i32], k: usize) -> usize
+    requires { ⌜ TwosThere (now block) from k (now list) ⌝ }
+    ensures { λ r. ⌜ Filled (now (block .entry)) (unpack 4 7 chunk) from r k (now (list .entry)) (now (list .exit)) ⌝ }
+{
+    let mut p = from;
+    let mut j: usize = 0;
+    while j < 7 {
+        let symbol = (chunk >> (12 - 2 * j)) % 4;
+        let word = pair_word(symbol, block[p], block[p + 1]);
+        list[k + j] = word;
+        p = p + eaten(symbol);
+        j = j + 1;
+    }
+    p
+}
+
+// The words of a chunk's first n symbols, from place k of the list on, with the delta bytes from a place on; the place after them.
+fn fill_each(block: &[u8], chunk: usize, n: usize, from: usize, list: &mut [i32], k: usize) -> usize
+    requires { ⌜ Fillable (now block) (standsFor chunk) n from k (now list) ⌝ }
+    ensures { λ r. ⌜ Filled (now (block .entry)) (take n (standsFor chunk)) from r k (now (list .entry)) (now (list .exit)) ⌝ }
+{
+    let mut d = from;
+    let mut j: usize = 0;
+    while j < n {
+        let deltas = Deltas { at: d };
+        let delta = deltas.next(block, twcc_walk::symbol(chunk, j));
+        let word = delta.word;
+        list[k + j] = word;
+        let after = delta.next;
+        d = after.at;
+        j = j + 1;
+    }
+    d
+}
+
+// The same, as quickly as the kind of chunk allows.
+fn fill_chunk(
+    block: &[u8],
+    chunk: usize,
+    n: usize,
+    from: usize,
+    list: &mut [i32],
+    k: usize,
+) -> usize
+    requires { ⌜ Fillable (now block) (standsFor chunk) n from k (now list) ⌝ }
+    ensures { λ r. ⌜ Filled (now (block .entry)) (take n (standsFor chunk)) from r k (now (list .entry)) (now (list .exit)) ⌝ }
+{
+    if chunk < 32768 {
+        return fill_run(block, chunk / 8192, n, from, list, k);
+    }
+    if block.len() - from < 14 {
+        return fill_each(block, chunk, n, from, list, k);
+    }
+    if chunk < 49152 {
+        if n == 14 {
+            return fill_ones(block, chunk, from, list, k);
+        }
+        return fill_each(block, chunk, n, from, list, k);
+    }
+    if n == 7 {
+        return fill_twos(block, chunk, from, list, k);
+    }
+    fill_each(block, chunk, n, from, list, k)
+}
+
+// The words of all chunks, where the deltas start at a place.
+fn fill_all(block: &[u8], statuses: usize, start: usize, list: &mut [i32])
+    requires { ⌜ AllFillable (now block) statuses start (now list) ⌝ }
+    ensures { λ _. ⌜ AllFilled (now (block .entry)) statuses start (now (list .entry)) (now (list .exit)) ⌝ }
+{
+    let mut c = Chunks {
+        at: 8,
+        left: statuses,
+    };
+    let mut d = start;
+    let mut k: usize = 0;
+    loop {
+        match c.next(block) {
+            NextChunk::Taken { word, count, next } => {
+                d = fill_chunk(block, word, count, d, list, k);
+                k = k + count;
+                c = next;
+            }
+            NextChunk::Over => {
+                return;
+            }
+        }
+    }
+}
+
+// Fills the front of the list with the block's words if it has room for all of them, and answers how many they are.
+pub fn fill(block: &[u8], list: &mut [i32]) -> usize
+    ensures { λ r. ⌜ Fills (now (block .entry)) (now (list .entry)) r (now (list .exit)) ⌝ }
+{
+    let counts = twcc_walk::count(block);
+    let listed = counts.listed;
+    if list.len() < listed {
+        return listed;
+    }
+    let header = Header::of(block);
+    fill_all(block, header.statuses as usize, counts.start, list);
+    listed
+}
