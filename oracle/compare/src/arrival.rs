@@ -1,4 +1,4 @@
-//! The arrival of a received entry: document 01's rule alone, for the crate has only a comment on it.
+//! The arrival of a received entry: the rule of docs/RULES.md alone, for the crate has only a comment on it.
 
 use ours::Said;
 

@@ -286,7 +286,7 @@ pub fn unless_it_panics<T>(call: impl FnOnce() -> T) -> Option<T> {
     result
 }
 
-/// A refusal to read, in document 01's numbers.
+/// A refusal to read, in the numbers of docs/RULES.md.
 pub fn refused_reading(error: RtcpParseError) -> Said {
     let wide = |number: usize| number as u64;
     match error {

@@ -123,7 +123,7 @@ fn expected_unknown(data: &[u8]) -> Said {
     }
 }
 
-/// Document 01's walk step, line by line; the packet itself is read as the crate's `Unknown`.
+/// The walk step of docs/RULES.md, line by line; the packet itself is read as the crate's `Unknown`.
 fn expected_step(data: &[u8], offset: u64) -> Said {
     let end = data.len() as u64;
     if offset >= end {
@@ -143,7 +143,7 @@ fn expected_step(data: &[u8], offset: u64) -> Said {
     }
 }
 
-/// Document 01's examples, with its own words as the expectation.
+/// The fixed examples, with their own words as the expectation.
 fn read_fixed_compounds(readers: &mut Readers) {
     let table: [(&[u8], Said); 6] = [
         (&[], Said::refusal(1, &[4, 0])),
@@ -279,7 +279,7 @@ impl Plain {
         bytes
     }
 
-    /// What has to be said, in document 01's order: 8, 9, 11, 15; `bytes` is what the answer writes.
+    /// What has to be said, in the order of docs/RULES.md: 8, 9, 11, 15; `bytes` is what the answer writes.
     fn expected(&self, bytes: &[u8], room: usize) -> Expected {
         let body = self.body.len() as u64;
         let needed = 4 + body + u64::from(self.padding);
@@ -392,7 +392,7 @@ fn compare_write(effort: &Effort) -> Book {
     book
 }
 
-/// Every mixture of the four faults: the first one in document 01's order is named.
+/// Every mixture of the four faults: the first one in the order of docs/RULES.md is named.
 fn write_first_of_several(book: &mut Book, random: &mut Random) {
     for faults in 0..16 {
         let fault = |bit: u32| faults >> bit & 1 == 1;

@@ -271,7 +271,7 @@ fn check_random_packet(check: &Check, book: &mut Book, random: &mut Random) {
     check.enter(book, random, &data);
 }
 
-/// Packets that deserve several refusals, with the one that document 01 names first.
+/// Packets that deserve several refusals, with the one that docs/RULES.md names first.
 fn check_first_of_several(book: &mut Book, random: &mut Random) {
     let table: [(&[u8], u64, u8, Said); 16] = [
         (&[], 0, 200, Said::refusal(17, &[0])),

@@ -19,7 +19,7 @@ pub fn compare(effort: &Effort) -> Vec<Book> {
     ]
 }
 
-/// Document 01's store of a set: number n at byte n / 8, bit n mod 8, bit 0 worth 1.
+/// The store of a set as docs/RULES.md has it: number n at byte n / 8, bit n mod 8, bit 0 worth 1.
 fn store_of(numbers: &[u16]) -> Vec<u8> {
     let mut store = vec![0; STORE];
     for number in numbers {

@@ -81,7 +81,7 @@ impl Reader {
         });
     }
 
-    /// Document 01's examples, with its own words as the expectation.
+    /// The fixed examples, with their own words as the expectation.
     fn read_fixed_blocks(&mut self) {
         let table: [(&[u8], &[i32]); 4] = [
             (&[0, 5, 0, 2, 0, 0, 0, 0, 0xE4, 0, 0x7F], &[TRUNCATED; 2]),
