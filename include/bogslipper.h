@@ -155,6 +155,17 @@ bog_said bog_nack_write(const uint8_t *store, size_t store_n, uint8_t *out, size
 bog_said bog_twcc_read(const uint8_t *block, size_t n, int32_t *list, size_t list_n);
 
 /*
+ * Writes one block from the front of a list, of at most `limit` bytes where
+ * `limited` is set (otherwise `limit` is not looked at). Go on with the
+ * entries not taken; a limit of at least 24 takes one or more.
+ * Values: bytes written, entries taken.
+ * Refusals: 10, 13, 12, 14, 15 (bytes).
+ */
+bog_said bog_twcc_write(uint16_t base, uint32_t time, uint8_t feedback, const int32_t *list,
+                        size_t list_n, bool limited, uint64_t limit, uint8_t *out,
+                        size_t out_n);
+
+/*
  * Arrival times.
  */
 

@@ -109,6 +109,22 @@ static void use_twcc_read(void)
     check("twcc read, short", says(bog_twcc_read(block, 7, list, 2), 1, 8, 7, 0, 0, 0));
 }
 
+static void use_twcc_write(void)
+{
+    const int32_t one[1] = {255};
+    const int32_t nine[9] = {0};
+    const uint8_t block[12] = {0, 1, 0, 1, 0, 0, 0, 0, 0xD0, 0, 0xFF, 0};
+    uint8_t out[12];
+
+    memset(out, 0x55, sizeof out);
+    check("twcc write", says(bog_twcc_write(1, 0, 0, one, 1, false, 0, out, 12), 0, 12, 1, 0, 0, 0));
+    check("twcc write, bytes", same(out, block, 12));
+    check("twcc write, limit",
+          says(bog_twcc_write(1, 0, 0, nine, 9, true, 12, out, 12), 0, 12, 1, 0, 0, 0));
+    check("twcc write, time",
+          says(bog_twcc_write(1, 16777216, 0, one, 1, false, 0, out, 12), 10, 16777216, 0, 0, 0, 0));
+}
+
 static void use_arrival(void)
 {
     check("arrival", says(bog_arrival(1, 4), 0, 260, 0, 0, 0, 0));
@@ -123,6 +139,7 @@ int main(void)
     use_unknown_write();
     use_nack();
     use_twcc_read();
+    use_twcc_write();
     use_arrival();
     printf("c: %d checks, %d failures\n", checks, failures);
     return failures != 0;

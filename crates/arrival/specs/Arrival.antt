@@ -1,6 +1,6 @@
 -- The arrival of a received entry, in ticks of 250 µs: the rule that the Rust's comment on `delta` has.
 use Prim.Native.Nat.{ℕ, _*_}
-use mathlib.Core.List.{List, [], _∷_}
+use mathlib.Core.List.{[], _∷_}
 use mathlib.Core.Bool.{cond}
 use lib.IntN.{ℤ, pos, _+ℤ_}
 use Rattle.refusal.specs.Outcome.{Outcome, gave, refuse}

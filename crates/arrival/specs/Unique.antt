@@ -2,7 +2,6 @@
 use mathlib.Core.Path.{_≡_, ap}
 use lib.IntN.{ℤ}
 use Rattle.refusal.specs.Unique.{no-unique}
-use Rattle.kinds.specs.declared.Tick.{Tick}
 use Rattle.arrival.specs.Arrival.{saidArrived}
 use Rattle.arrival.specs.declared.Arrived.{Arrived}
 use Rattle.arrival.specs.declared.Arrived.the-variants.{At, No}

@@ -7,6 +7,7 @@ use Rattle.refusal.specs.Told.{valueBits}
 use Rattle.utils.specs.Check.{Padding, clear, byte}
 use Rattle.compound.specs.Walk.{Met, over, packet, Step, step}
 use Rattle.twcc_read.specs.declared.Listed.{Listed}
+use Rattle.twcc_write.specs.declared.Used.{Used}
 use Rattle.exports.specs.declared.Said.{Said}
 
 -- 0 for an answer, else the refusal's number
@@ -61,3 +62,7 @@ unfoldable pub listedBlock : Outcome Listed → Outcome (List ℤ)
 listedBlock =
     answered
     (λ l. pos (l .header .base .0) ∷ pos (l .header .statuses) ∷ pos (l .header .time .0) ∷ pos (l .header .feedback) ∷ pos (l .count) ∷ [])
+
+-- bytes written, entries taken
+unfoldable pub block : Outcome Used → Outcome (List ℤ)
+block = answered (λ used. pos (used .bytes) ∷ pos (used .taken) ∷ [])

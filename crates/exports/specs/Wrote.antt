@@ -2,6 +2,8 @@
 use Prim.Native.Nat.{ℕ}
 use mathlib.Core.List.{List}
 use mathlib.Core.Path.{_≡_}
+use mathlib.Core.Bool.{Bool, true, false}
+use mathlib.Core.Option.{Option, none, some}
 use lib.IntN.{ℤ}
 use lib.ListN.{length}
 use lib.Seq.{sets}
@@ -15,7 +17,9 @@ use Rattle.nack.specs.Entries.{readNack, nackBytes}
 use Rattle.nack.specs.Promise.{intoRoom}
 use Rattle.twcc.specs.Block.{listed}
 use Rattle.twcc_read.specs.Promise.{readAnswer}
-use Rattle.exports.specs.Says.{saidOf, nothing, number, listedBlock}
+use Rattle.twcc_plan.specs.Block.{blockBytes}
+use Rattle.twcc_write.specs.Promise.{written as writtenBlock}
+use Rattle.exports.specs.Says.{saidOf, nothing, number, listedBlock, block}
 use Rattle.exports.specs.declared.Said.{Said}
 
 -- an outcome as the struct says it, and the memory after it: `new` after an answer, what it held after a refusal
@@ -38,3 +42,12 @@ WroteNack store out = Wrote number (ofStore store (intoRoom (length (nackBytes s
 
 abbrev pub ReadTwcc : List ℕ → List ℤ → Said → List ℤ → Type 0
 ReadTwcc block list = Wrote listedBlock (readAnswer block (length list)) (over (listed block) list) list
+
+-- a limit that is looked at only where it is given
+abbrev pub given : Bool → ℕ → Option ℕ
+given true limit = some limit
+given false limit = none
+
+abbrev pub WroteTwcc : ℕ → ℕ → ℕ → List ℤ → Option ℕ → List ℕ → Said → List ℕ → Type 0
+WroteTwcc base time feedback list limit old =
+    Wrote block (writtenBlock time list limit (length old)) (over (blockBytes base time feedback limit list) old) old

@@ -8,6 +8,8 @@ use refusal::Checked;
 use refusal::Number;
 use refusal::Refusal;
 use twcc_read::Reading;
+use twcc_write::Limit;
+use twcc_write::Written;
 use utils::Padded;
 ghost use mathlib.Core.Path.{_≡_};
 ghost use Rattle.refusal.specs.Number.{no};
@@ -19,8 +21,9 @@ ghost use Rattle.compound.specs.Unknown.{unknown};
 ghost use Rattle.compound.specs.Pass.{firstPass};
 ghost use Rattle.compound.specs.Walk.{walkStep};
 ghost use Rattle.arrival.specs.Arrival.{arrivalOf};
-ghost use Rattle.exports.specs.Says.{saidOf, nothing, number, signed, padding, walk};
-ghost use Rattle.exports.specs.Wrote.{WroteUnknown, AddedNack, ReadNack, WroteNack, ReadTwcc};
+ghost use Rattle.twcc_write.specs.Promise.{saidWritten};
+ghost use Rattle.exports.specs.Says.{saidOf, nothing, number, signed, padding, walk, block};
+ghost use Rattle.exports.specs.Wrote.{WroteUnknown, AddedNack, ReadNack, WroteNack, ReadTwcc, given, WroteTwcc};
 
 // Number 0 and the answer's values, or a refusal's number and its values; the rest 0.
 #[repr(C)]
@@ -239,4 +242,35 @@ pub extern "C" fn bog_arrival(time: u32, delta: i16) -> Said
         },
         Arrived::No(r) => refused(r),
     }
+}
+
+fn said_written(answer: Written) -> Said
+    ensures { λ s. ⌜ s ≡ saidOf (block (saidWritten answer)) ⌝ }
+{
+    match answer {
+        Written::Block(used) => Said {
+            number: 0,
+            values: [used.bytes as u64, used.taken as u64, 0, 0, 0],
+        },
+        Written::No(r) => refused(r),
+    }
+}
+
+#[no_mangle]
+pub extern "C" fn bog_twcc_write(
+    base: u16,
+    time: u32,
+    feedback: u8,
+    list: &[i32],
+    limited: bool,
+    limit: u64,
+    out: &mut [u8],
+) -> Said
+    ensures { λ s. ⌜ WroteTwcc base time feedback (now (list .entry)) (given limited limit) (now (out .entry)) s (now (out .exit)) ⌝ }
+{
+    if limited {
+        let most = Limit::Bytes(limit as usize);
+        return said_written(twcc_write::write(Seq(base), RefTime(time), feedback, list, most, out));
+    }
+    said_written(twcc_write::write(Seq(base), RefTime(time), feedback, list, Limit::Absent, out))
 }

@@ -2,7 +2,7 @@
 -- chunk, and that a word stands for the symbols that it was made of.
 use Prim.Native.Nat.{ℕ, zero, suc, _+_, _*_, _-_, _/_, _%_, _^_, _≤_, _<_}
 use mathlib.Core.Path.{_≡_, refl, sym, ap, ap₂, _∙_}
-use mathlib.Core.List.{List, [], _∷_, _++_}
+use mathlib.Core.List.{List, [], _∷_}
 use mathlib.Core.Bool.{cond}
 use native.Mathlib.Omega.{arith}
 use native.Mathlib.Nat.{one-le-pow, pow-succ', mul-assoc, mul-add-div-right, mul-add-mod-self-right, mod-eq-of-lt, zero-div, zero-mod, not-suc-le-zero, le-of-suc-le-suc}

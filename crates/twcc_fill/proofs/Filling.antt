@@ -11,7 +11,7 @@ use lib.ListN.{length, getD, take, drop, set, length-set, length-append, length-
 use lib.Seq.{sets, length-sets, sets-eq, drop-cons, drop-drop, length-take-le}
 use Rattle.twcc.specs.Words.{bytesOf, widthOf, wordOf, entries}
 use Rattle.twcc.specs.Chunks.{standsFor}
-use Rattle.twcc.specs.Block.{statusCount, symbols, blockSymbols, blockDeltas, listed, deltasStart}
+use Rattle.twcc.specs.Block.{statusCount, symbols, blockSymbols, listed, deltasStart}
 use Rattle.twcc.specs.Entries.{length-entries, entries-cons, entries-append, width-cons, width-append}
 use Rattle.twcc.specs.Reading.{listed-count, deltas-there}
 use Rattle.twcc_walk.specs.Cursors.{headerOf, countsOf, nextDelta}

@@ -1,18 +1,16 @@
 -- Runs: n times the same symbol, and words that are stored one by one.
-use Prim.Native.Nat.{ℕ, zero, suc, _+_, _-_, _*_, _≤_, _<_, min}
-use mathlib.Core.Path.{_≡_, refl, sym, ap, ap₂, _∙_, subst}
+use Prim.Native.Nat.{ℕ, zero, suc, _+_, _-_, _*_, _≤_, _<_}
+use mathlib.Core.Path.{_≡_, refl, sym, ap, ap₂, _∙_}
 use mathlib.Core.List.{List, [], _∷_, _++_}
 use native.Mathlib.Nat.{add-zero, zero-mul, suc-mul}
 use native.Mathlib.Numerals.{add-one}
-use native.Mathlib.Decide.{decLe}
 use native.Mathlib.Omega.{arith}
 use lib.IntN.{ℤ}
 use lib.ListN.{length, getD, drop, set, replicate, length-set, length-drop, length-replicate, getD-replicate, replicate-append-replicate, drop-of-length-le}
 use lib.Seq.{sets, drop-cons, drop-drop}
-use Rattle.twcc.specs.Words.{bytesOf, widthOf, wordOf, entries, notReceived, truncated, reserved}
+use Rattle.twcc.specs.Words.{bytesOf, widthOf, wordOf, entries, truncated}
 use Rattle.twcc.specs.Entries.{length-entries}
 use Rattle.twcc.specs.Written.{bytes-symbol}
-use Rattle.twcc_walk.proofs.Steps.{drop-clamp, bytes-none, bytes-small, bytes-large, bytes-reserved, word-none, word-reserved}
 use Rattle.twcc_fill.specs.Filled.{Filled}
 use Rattle.twcc_fill.proofs.Filling.{sets-all, Filling, filling-part, Turn, turn-start, turn-there, turn-over}
 

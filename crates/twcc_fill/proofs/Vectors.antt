@@ -6,7 +6,7 @@ use native.Mathlib.Omega.{arith}
 use lib.IntN.{ℤ}
 use lib.ListN.{length, getD, take, drop, replicate}
 use lib.Seq.{drop-cons, take-all}
-use Rattle.twcc.specs.Words.{bytesOf, wordOf}
+use Rattle.twcc.specs.Words.{wordOf}
 use Rattle.twcc.specs.Chunks.{unpack, standsFor, length-unpack, stands-run, stands-one, stands-two, size-run}
 use Rattle.twcc_walk.proofs.Steps.{drop-two}
 use Rattle.twcc_fill.specs.Filled.{Filled}

@@ -1,4 +1,6 @@
-// Filling a lent list with a block's status words, by a quick loop for each kind of chunk.
+// Filling a lent list with a block's status words, by a quick loop for each kind of chunk. Throughout, `from` is where the
+// next delta byte stands in the block and `k` is the next place of the list; a fill that answers a number says where the
+// deltas go on.
 use twcc_walk::Chunks;
 use twcc_walk::Deltas;
 use twcc_walk::Header;
@@ -203,7 +205,7 @@ fn fill_twos(block: &[u8], chunk: usize, from: usize, list: &mut [i32], k: usize
     p
 }
 
-// The words of a chunk's first n symbols, from place k of the list on, with the delta bytes from a place on; the place after them.
+// The words of a chunk's first n symbols, one by one.
 fn fill_each(block: &[u8], chunk: usize, n: usize, from: usize, list: &mut [i32], k: usize) -> usize
     requires { ⌜ Fillable (now block) (standsFor chunk) n from k (now list) ⌝ }
     ensures { λ r. ⌜ Filled (now (block .entry)) (take n (standsFor chunk)) from r k (now (list .entry)) (now (list .exit)) ⌝ }

@@ -1,23 +1,22 @@
 -- Walking the packets of a block gives its list: what is to come falls by one entry at each step.
-use Prim.Native.Nat.{ℕ, zero, suc, _+_, _-_, _*_, _%_, _≤_, _<_, min}
+use Prim.Native.Nat.{ℕ, suc, _+_, _%_, _≤_, _<_}
 use mathlib.Core.Path.{_≡_, refl, sym, ap, _∙_, subst}
 use mathlib.Core.Logic.{_⊎_, inl, inr}
 use mathlib.Core.List.{List, [], _∷_, _++_}
 use native.Mathlib.Numerals.{add-one}
-use native.Mathlib.Decide.{decLt, ℕ-discrete}
+use native.Mathlib.Decide.{decLt}
 use native.Mathlib.Omega.{arith}
-use borrow.Author.Tests.{lt-ltb, le-ltb, eq-eqb, ne-eqb}
+use borrow.Author.Tests.{lt-ltb, le-ltb}
 use lib.IntN.{ℤ}
-use lib.ListN.{length, getD, take, drop, length-take, drop-of-length-le}
-use lib.Seq.{take-nil, drop-cons, drop-drop, getD-take, length-take-le}
+use lib.ListN.{length, take, drop, length-take, drop-of-length-le}
+use lib.Seq.{drop-cons, getD-take, length-take-le}
 use Rattle.kinds.specs.declared.Seq.{Seq}
 use Rattle.refusal.specs.Outcome.{gave, refuse}
 use Rattle.twcc.specs.Words.{bytesOf, wordOf, entries}
 use Rattle.twcc.specs.Chunks.{standsFor}
-use Rattle.twcc.specs.Block.{baseOf, statusCount, symbols, blockSymbols, listed, deltasStart}
-use Rattle.twcc.specs.Entries.{entries-cons}
-use Rattle.twcc.specs.Reading.{symbols-zero, symbols-short, symbols-cons, deltas-there}
-use Rattle.twcc_walk.specs.Cursors.{headerOf, countsOf, taken, fullChunk, nextDelta}
+use Rattle.twcc.specs.Block.{baseOf, symbols, blockSymbols, listed}
+use Rattle.twcc.specs.Reading.{deltas-there}
+use Rattle.twcc_walk.specs.Cursors.{headerOf, countsOf, fullChunk, nextDelta}
 use Rattle.twcc_packets.specs.Packets.{firstPackets, opened, symbolHere, packetsAfter, packetAt, onChunk, fromChunk, nextPacket, Walks}
 use Rattle.twcc_walk.specs.declared.Chunks.{Chunks}
 use Rattle.twcc_walk.specs.declared.NextChunk.{NextChunk}
@@ -27,7 +26,6 @@ use Rattle.twcc_walk.specs.declared.Deltas.{Deltas}
 use Rattle.twcc_walk.specs.declared.Header.{Header}
 use Rattle.twcc_walk.specs.declared.Counts.{Counts}
 use Rattle.twcc_packets.specs.declared.Packets.{Packets}
-use Rattle.twcc_packets.specs.declared.NextPacket.{NextPacket}
 use Rattle.twcc_packets.specs.declared.NextPacket.the-variants as packet
 use Rattle.twcc_walk.proofs.Steps.{FullIs, full-is, drop-clamp}
 

@@ -3,7 +3,7 @@ use Prim.Native.Nat.{ℕ, _+_, _-_, _*_, min}
 use mathlib.Core.List.{List, [], _∷_}
 use mathlib.Core.Bool.{cond}
 use lib.Dec.{ltb, eqb}
-use lib.ListN.{length, getD, drop}
+use lib.ListN.{length, drop}
 use Rattle.twcc.specs.Words.{bytesOf, wordOf}
 use Rattle.twcc.specs.Chunks.{standsFor}
 use Rattle.twcc.specs.Block.{be16, baseOf, statusCount, referenceTime, feedbackCount, blockSymbols, deltasStart}

@@ -204,12 +204,13 @@ pub fn count(block: &[u8]) -> Counts
     }
 }
 
-// A large delta: two bytes as a signed number. Adding half of what 16 bits hold, modulo all of it, needs no test.
+// A large delta: two bytes as a signed number. The high byte gets its sign without a test: half of what a byte holds is
+// added, modulo all of it, and taken off.
 pub fn large(high: u8, low: u8) -> i32
     ensures { λ r. ⌜ r ≡ signed16 (256 * high + low) ⌝ }
 {
-    let bits = 256 * (high as u32) + (low as u32);
-    ((bits + 32768) % 65536) as i32 - 32768
+    let high = ((high as u32 + 128) % 256) as i32 - 128;
+    256 * high + (low as i32)
 }
 
 // The deltas to come: where the next one stands.

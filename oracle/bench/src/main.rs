@@ -4,6 +4,7 @@ mod compound;
 mod nack;
 mod row;
 mod twcc_read;
+mod twcc_write;
 
 use std::process::ExitCode;
 
@@ -16,6 +17,7 @@ const PARTS: &[Part] = &[
     ("compound", compound::rows),
     ("nack", nack::rows),
     ("twcc_read", twcc_read::rows),
+    ("twcc_write", twcc_write::rows),
 ];
 
 const HELP: &str = "\

@@ -6,6 +6,7 @@ mod compound;
 mod header;
 mod nack;
 mod twcc_read;
+mod twcc_write;
 
 use std::process::ExitCode;
 use std::time::Instant;
@@ -20,6 +21,7 @@ const PARTS: &[Part] = &[
     ("compound", compound::compare),
     ("nack", nack::compare),
     ("twcc_read", twcc_read::compare),
+    ("twcc_write", twcc_write::compare),
     ("arrival", arrival::compare),
 ];
 

@@ -1,5 +1,4 @@
 -- The tests say which kind of chunk it is, and that the quick fill's bytes are there.
-use native.Mathlib.Omega.{arith}
 use Rattle.twcc_fill.proofs.Vectors.{filled-run, filled-ones, filled-twos}
 use borrow.Author.Needs.{needs}
 use Rattle.twcc_fill.proofs.fill_chunk.Statement.{statement}

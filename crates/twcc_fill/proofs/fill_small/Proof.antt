@@ -1,6 +1,6 @@
 -- Each turn lists the entry of one byte.
 use Prim.Native.Nat.{_+_, _-_, _<_}
-use mathlib.Core.Path.{refl, sym, _∙_}
+use mathlib.Core.Path.{refl, _∙_}
 use native.Mathlib.Omega.{arith}
 use mir.Syntax.{w32}
 use mir.ValLaws.{toZ-pos}

@@ -1,5 +1,4 @@
 -- All bytes are there, or all that are there are listed and the rest is cut.
-use mathlib.Core.Path.{_∙_}
 use native.Mathlib.Omega.{arith}
 use Rattle.twcc_fill.proofs.Runs.{run-cut}
 use borrow.Author.Needs.{needs}

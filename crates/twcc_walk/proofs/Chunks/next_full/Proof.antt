@@ -3,7 +3,6 @@ use Prim.Native.Nat.{_-_}
 use mathlib.Core.Path.{_≡_, refl, sym, subst, _∙_}
 use native.Mathlib.Omega.{arith}
 use lib.ListN.{length, drop}
-use denote.Ref.{now}
 use borrow.Author.Needs.{needs}
 use Rattle.twcc_walk.specs.Cursors.{fullChunk}
 use Rattle.twcc_walk.proofs.Steps.{IsOver, IsTaken, StepIs, step-is}

@@ -1,0 +1,4 @@
+pub mod Symbols
+pub mod Counting
+pub mod Packing
+pub mod Choosing

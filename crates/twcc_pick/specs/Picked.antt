@@ -1,0 +1,23 @@
+-- A chunk as the code holds it.
+use Prim.Native.Nat.{ℕ, _+_, _^_, _≤_, min}
+use mathlib.Core.Path.{_≡_}
+use mathlib.Core.List.{List}
+use lib.ListN.{length, take}
+use Rattle.twcc.specs.Words.{widthOf}
+use Rattle.twcc.specs.Chunks.{Chunk, pack, chunkWord}
+use Rattle.twcc_plan.specs.Choice.{takenBy, widthBy}
+use Rattle.twcc_pick.specs.declared.Picked.{Picked}
+
+unfoldable pub picked : Chunk → Picked
+picked c = record { word = chunkWord c; count = takenBy c; width = widthBy c }
+
+-- a vector's 14 bits hold so many digits of the base, and top bits stand above them
+pub record Places (base places top : ℕ) : Type 0 where
+  pub two : 2 ≤ base
+  pub fourteen : base ^ places ≡ 16384
+  pub few : places ≤ 14
+  pub sixteen : top ≤ 49152
+
+unfoldable pub vectorOf : ℕ → ℕ → ℕ → List ℕ → Picked
+vectorOf base places top ss =
+    record { word = top + pack base places ss; count = min places (length ss); width = widthOf (take places ss) }

@@ -1,0 +1,16 @@
+-- No slack: two chunks picked for the same list are equal, and so are two symbols at the same place.
+use Prim.Native.Nat.{ℕ, _≤_}
+use mathlib.Core.Path.{_≡_, sym, _∙_}
+use mathlib.Core.List.{List, map}
+use lib.IntN.{ℤ}
+use lib.ListN.{getD}
+use Rattle.twcc.specs.Words.{symbolOf}
+use Rattle.twcc_plan.specs.Choice.{chunkFor}
+use Rattle.twcc_pick.specs.Picked.{picked}
+use Rattle.twcc_pick.specs.declared.Picked.{Picked}
+
+pub pick-unique : (rest : List ℤ) (a b : Picked) → a ≡ picked (chunkFor (map symbolOf rest)) → b ≡ picked (chunkFor (map symbolOf rest)) → a ≡ b
+pick-unique rest a b one two = one ∙ sym two
+
+pub symbol-unique : (list : List ℤ) (at a b : ℕ) → (a ≡ getD (map symbolOf list) at 0) × (a ≤ 2) → (b ≡ getD (map symbolOf list) at 0) × (b ≤ 2) → a ≡ b
+symbol-unique list at a b one two = one .0 ∙ sym (two .0)

@@ -1,0 +1,123 @@
+// The chunk that a TWCC block writer picks for what remains of its list.
+ghost use mathlib.Core.Path.{_≡_};
+ghost use mathlib.Core.List.{map};
+ghost use Prim.Native.Nat.{_≤_, min};
+ghost use lib.ListN.{getD};
+ghost use Rattle.twcc.specs.Words.{symbolOf};
+ghost use Rattle.twcc_plan.specs.Choice.{runOf, onesOf, isRun, isOne, chunkFor};
+ghost use Rattle.twcc_pick.specs.Picked.{picked, Places, vectorOf};
+
+// The longest run that one chunk holds.
+const LONGEST_RUN: usize = 8191;
+
+// A chunk as it is written: its 16-bit word, the entries that it takes, and their delta bytes.
+pub struct Picked {
+    pub word: usize,
+    pub count: usize,
+    pub width: usize,
+}
+
+fn symbol(word: i32) -> usize
+    ensures { λ r. ⌜ (r ≡ symbolOf word) × (r ≤ 2) ⌝ }
+{
+    let delta: usize = if 255 < word { 2 } else { 1 };
+    let received: usize = if word < 0 { 2 } else { delta };
+    if 32767 < word { 0 } else { received }
+}
+
+// The symbol at a place, 0 past the end.
+pub fn symbol_at(list: &[i32], at: usize) -> usize
+    ensures { λ r. ⌜ (r ≡ getD (map symbolOf (now (list .entry))) at 0) × (r ≤ 2) ⌝ }
+{
+    if at < list.len() { symbol(list[at]) } else { 0 }
+}
+
+fn lesser(a: usize, b: usize) -> usize
+    ensures { λ r. ⌜ r ≡ min a b ⌝ }
+{
+    if a < b { a } else { b }
+}
+
+// The run of equal symbols from the front.
+fn run_length(rest: &[i32]) -> usize
+    ensures { λ r. ⌜ r ≡ runOf (map symbolOf (now (rest .entry))) ⌝ }
+{
+    let first = symbol_at(rest, 0);
+    let end = lesser(LONGEST_RUN, rest.len());
+    let mut n: usize = 0;
+    while n < end {
+        if symbol_at(rest, n) != first {
+            return n;
+        }
+        n = n + 1;
+    }
+    n
+}
+
+// The entries at the front with symbol 0 or 1, at most 14.
+fn ones_length(rest: &[i32]) -> usize
+    ensures { λ r. ⌜ r ≡ onesOf (map symbolOf (now (rest .entry))) ⌝ }
+{
+    let end = lesser(14, rest.len());
+    let mut n: usize = 0;
+    while n < end {
+        if 1 < symbol_at(rest, n) {
+            return n;
+        }
+        n = n + 1;
+    }
+    n
+}
+
+fn is_run(r: usize, b: usize) -> bool
+    ensures { λ t. ⌜ t ≡ isRun r b ⌝ }
+{
+    r > 7 && r >= b
+}
+
+fn is_one(b: usize, left: usize) -> bool
+    ensures { λ t. ⌜ t ≡ isOne b left ⌝ }
+{
+    b == 14 || b > 7 && b == left
+}
+
+// A vector of so many places for digits of a base, `top` its highest bits.
+fn vector(rest: &[i32], base: usize, places: usize, top: usize) -> Picked
+    requires { ⌜ Places base places top ⌝ }
+    ensures { λ r. ⌜ r ≡ vectorOf base places top (map symbolOf (now (rest .entry))) ⌝ }
+{
+    let mut digits: usize = 0;
+    let mut width: usize = 0;
+    let mut n: usize = 0;
+    while n < places {
+        let symbol = symbol_at(rest, n);
+        digits = digits * base + symbol;
+        width = width + symbol;
+        n = n + 1;
+    }
+    Picked {
+        word: top + digits,
+        count: lesser(places, rest.len()),
+        width: width,
+    }
+}
+
+// The chunk for what remains.
+pub fn pick(rest: &[i32]) -> Picked
+    ensures { λ r. ⌜ r ≡ picked (chunkFor (map symbolOf (now (rest .entry)))) ⌝ }
+{
+    let r = run_length(rest);
+    let b = ones_length(rest);
+    if is_run(r, b) {
+        let symbol = symbol_at(rest, 0);
+        return Picked {
+            word: symbol * 8192 + r,
+            count: r,
+            width: symbol * r,
+        };
+    }
+    if is_one(b, rest.len()) {
+        return vector(rest, 2, 14, 32768);
+    }
+    vector(rest, 4, 7, 49152)
+}

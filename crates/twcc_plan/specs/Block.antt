@@ -1,0 +1,61 @@
+-- The bytes of a block that is written: header, chunk words, delta bytes, zeros to a multiple of four (the draft, 3.1).
+use Prim.Native.Nat.{ℕ, _+_, _-_, _/_, _%_}
+use mathlib.Core.List.{List, [], _∷_, _++_, map}
+use mathlib.Core.Option.{Option}
+use mathlib.Core.Bool.{Bool}
+use lib.Dec.{ltb, leb}
+use lib.IntN.{ℤ, pos, negsuc}
+use lib.ListN.{length, take}
+use Rattle.lent.specs.Bytes.{zeroBytes}
+use Rattle.twcc.specs.Time.{timeBits}
+use Rattle.twcc.specs.Words.{symbolOf, deltas}
+use Rattle.twcc.specs.Chunks.{Chunk, chunkWord}
+use Rattle.twcc.specs.Written.{wordBytes}
+use Rattle.twcc_plan.specs.Front.{front}
+use Rattle.twcc_plan.specs.Limits.{upFour}
+use Rattle.twcc_plan.specs.Plan.{plan, takenIn}
+
+-- ---- what is written
+
+-- the most entries of a list
+abbrev pub most : ℕ
+most = 16384
+
+-- a word that can be written: −32,768 to 32,768
+unfoldable pub inRange : ℤ → Bool
+inRange (pos n) = leb n 32768
+inRange (negsuc n) = ltb n 32768
+
+-- the first place of a word that cannot, or the list's length
+abbrev pub firstBad : List ℤ → ℕ
+firstBad list = front inRange list
+
+-- ---- a block
+
+-- base and status count of two bytes each, the time's three, the feedback count
+unfoldable pub header : ℕ → ℕ → ℕ → ℕ → List ℕ
+header base count time feedback =
+    base / 256 ∷ base % 256 ∷ count / 256 ∷ count % 256
+    ∷ timeBits time / 65536 ∷ timeBits time / 256 % 256 ∷ timeBits time % 256 ∷ feedback ∷ []
+
+-- a block's chunks: eight bytes are used and no entry is taken before the first
+unfoldable pub chunksOf : Option ℕ → List ℤ → List Chunk
+chunksOf limit list = plan limit 0 8 0 (map symbolOf list)
+
+-- the entries that a block takes
+unfoldable pub takenOf : Option ℕ → List ℤ → ℕ
+takenOf limit list = takenIn (chunksOf limit list)
+
+unfoldable pub body : Option ℕ → List ℤ → List ℕ
+body limit list = wordBytes (map chunkWord (chunksOf limit list)) ++ deltas (take (takenOf limit list) list)
+
+-- its bytes without padding, and with it
+abbrev pub usedOf : Option ℕ → List ℤ → ℕ
+usedOf limit list = 8 + length (body limit list)
+
+abbrev pub sizeOf : Option ℕ → List ℤ → ℕ
+sizeOf limit list = upFour (usedOf limit list)
+
+unfoldable pub blockBytes : ℕ → ℕ → ℕ → Option ℕ → List ℤ → List ℕ
+blockBytes base time feedback limit list =
+    header base (takenOf limit list) time feedback ++ (body limit list ++ zeroBytes (sizeOf limit list - usedOf limit list))

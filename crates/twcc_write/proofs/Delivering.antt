@@ -1,0 +1,89 @@
+-- The loop that stores deltas: what is left of them, stored from here, makes the whole.
+use Prim.Native.Nat.{ℕ, suc, _+_, _-_, _/_, _%_, _≤_, _<_}
+use mathlib.Core.Path.{_≡_, refl, sym, ap, _∙_}
+use mathlib.Core.List.{List, _++_}
+use native.Mathlib.Nat.{sub-zero}
+use native.Mathlib.Numerals.{add-one}
+use native.Mathlib.Omega.{arith}
+use lib.IntN.{ℤ, pos}
+use lib.ListN.{length, take, drop, set, length-append}
+use lib.Seq.{sets, drop-cons}
+use Rattle.lent.specs.Laws.{sets-append}
+use Rattle.twcc.specs.Words.{symbolOf, bits16, bytesFor, deltaBytes, deltas}
+use Rattle.twcc.specs.Written.{symbol-lt, length-delta}
+use Rattle.twcc_write.specs.Stores.{wordAt, DeltaStorable, DeltaStored, Storable, Stored}
+use Rattle.twcc_write.proofs.Words.{valid-at}
+
+-- ---- one delta, by its symbol
+
+module _ (list : List ℤ) (n : ℕ) (old : List ℕ) (at symbol : ℕ) (is : symbol ≡ symbolOf (wordAt list n)) where
+  pub none-stored : symbol ≡ 0 → DeltaStored list n old at at old
+  unfolding deltaBytes bytesFor
+  none-stored e = record { next = omega arith; bytes = rw (sym is ∙ e) }
+
+  module _ (bits : ℕ) (low : bits ≡ bits16 (wordAt list n)) where
+    pub small-stored : symbol ≡ 1 → DeltaStored list n old at (at + 1) (set old at bits)
+    unfolding deltaBytes bytesFor
+    small-stored e = record { next = omega arith; bytes = rw (sym is ∙ e, low) }
+
+    pub large-stored : (symbol ≡ 0 → ⊥) → (symbol ≡ 1 → ⊥) → DeltaStored list n old at (at + 2) (set (set old at (bits / 256)) (at + 1) (bits % 256))
+    unfolding deltaBytes bytesFor
+    large-stored some more =
+        let two : symbolOf (wordAt list n) ≡ 2 = omega (arith, symbol-lt (wordAt list n)) in
+        record { next = omega arith; bytes = rw (two, low, add-one at) }
+
+-- ---- the deltas of the first entries
+
+-- n of them are stored
+pub record Delivering (list : List ℤ) (entries : ℕ) (out₀ : List ℕ) (at : ℕ) (out : List ℕ) (p n : ℕ) : Type 0 where
+  pub within : n ≤ entries
+  pub same : length out ≡ length out₀
+  pub place : p + length (deltas (take (entries - n) (drop n list))) ≡ at + length (deltas (take entries list))
+  pub left : sets out p (deltas (take (entries - n) (drop n list))) ≡ sets out₀ at (deltas (take entries list))
+
+pub delivering-start : (list : List ℤ) (entries : ℕ) (out : List ℕ) (at : ℕ) → Delivering list entries out at out at 0
+delivering-start list entries out at = record { within = omega arith; same = refl; place = rw sub-zero refl; left = rw sub-zero refl }
+
+module _ {list : List ℤ} {entries : ℕ} {out₀ out : List ℕ} {at p n : ℕ} (d : Delivering list entries out₀ at out p n) where
+  pub delivering-over : entries ≤ n → Stored list entries out₀ at p out
+  unfolding deltas
+  delivering-over over =
+      let none : entries - n ≡ 0 = omega (arith, d .within) in
+      let place = rw none at (d .place) in
+      record { next = omega (arith, place); bytes = rw none at (d .left) }
+
+  module _ (storable : Storable list entries out₀ at) (more : n < entries) where
+    inside : n < length list
+    inside = omega (arith, storable .inside)
+
+    opened : deltas (take (entries - n) (drop n list)) ≡ deltaBytes (wordAt list n) ++ deltas (take (entries - suc n) (drop (suc n) list))
+    unfolding deltas
+    opened =
+        let one : entries - n ≡ suc (entries - suc n) = omega arith in
+        rw (one, drop-cons list n (pos 0) inside) refl
+
+    size : length (deltas (take (entries - n) (drop n list))) ≡ symbolOf (wordAt list n) + length (deltas (take (entries - suc n) (drop (suc n) list)))
+    size =
+        ap length opened ∙ length-append (deltaBytes (wordAt list n)) (deltas (take (entries - suc n) (drop (suc n) list)))
+        ∙ ap (λ (k : ℕ). k + length (deltas (take (entries - suc n) (drop (suc n) list)))) (length-delta (wordAt list n))
+
+    pub delta-storable : DeltaStorable list n out p
+    delta-storable =
+        record {
+          inside = inside;
+          valid = valid-at list n (pos 0) (storable .valid) inside;
+          room = omega (arith, size, d .place, d .same, storable .room);
+        }
+
+    pub delivering-turn : (p′ : ℕ) (new : List ℕ) → length new ≡ length out → DeltaStored list n out p p′ new → Delivering list entries out₀ at new p′ (n + 1)
+    delivering-turn p′ new kept stored =
+        let rest = deltas (take (entries - suc n) (drop (suc n) list)) in
+        let place : p′ ≡ p + length (deltaBytes (wordAt list n)) = omega (arith, stored .next, length-delta (wordAt list n)) in
+        record {
+          within = omega arith;
+          same = kept ∙ d .same;
+          place = rw (add-one n) (omega (arith, size, d .place, stored .next));
+          left =
+              rw (add-one n, stored .bytes, place)
+              (sets-append out p (deltaBytes (wordAt list n)) rest ∙ sym (ap (λ (l : List ℕ). sets out p l) opened) ∙ d .left);
+        }

@@ -1,0 +1,104 @@
+-- The parts of a block, stored one by one, are the block; and the room that it needs.
+use Prim.Native.Nat.{ℕ, suc, _+_, _*_, _-_, _≤_, _<_}
+use mathlib.Core.Path.{_≡_, refl, ap, _∙_}
+use mathlib.Core.List.{List, [], _∷_, _++_, map}
+use mathlib.Core.Option.{Option}
+use mathlib.Core.Bool.{cond}
+use native.Mathlib.Omega.{arith}
+use borrow.Author.Tests.{ltb-true, ltb-false, lt-ltb, le-ltb}
+use lib.Dec.{ltb}
+use lib.IntN.{ℤ}
+use lib.ListN.{length, take, set, length-append, length-map}
+use lib.Seq.{sets, set-comm}
+use Rattle.lent.specs.Bytes.{zeroBytes}
+use Rattle.lent.specs.Laws.{sets-append}
+use Rattle.twcc.specs.Words.{deltas}
+use Rattle.twcc.specs.Chunks.{chunkWord}
+use Rattle.twcc.specs.Written.{by-test, wordBytes}
+use Rattle.twcc_plan.specs.Limits.{upFour}
+use Rattle.twcc_plan.specs.Block.{header, chunksOf, takenOf, body, usedOf, sizeOf, blockBytes}
+use Rattle.twcc_plan.specs.BlockLaws.{length-words}
+use Rattle.twcc_write.specs.Plans.{Plans}
+use Rattle.twcc_write.specs.Stores.{Storable, Stored, Writable, Filled}
+use Rattle.twcc_write.specs.declared.Plan.{Plan}
+
+-- ---- stores in another order
+
+set-before : (l : List ℕ) (i j : ℕ) (xs : List ℕ) (y : ℕ) → i + length xs ≤ j → sets (set l j y) i xs ≡ set (sets l i xs) j y
+set-before l i j [] y apart = refl
+set-before l i j (x ∷ xs) y apart =
+    ap (λ (k : List ℕ). sets k (suc i) xs) (set-comm l j i y x (λ same. omega arith)) ∙ set-before (set l i x) (suc i) j xs y (omega arith)
+
+sets-before : (l : List ℕ) (i j : ℕ) (xs ys : List ℕ) → i + length xs ≤ j → sets (sets l j ys) i xs ≡ sets (sets l i xs) j ys
+sets-before l i j xs [] apart = refl
+sets-before l i j xs (y ∷ ys) apart =
+    sets-before (set l j y) i (suc j) xs ys (omega arith) ∙ ap (λ (k : List ℕ). sets k (suc j) ys) (set-before l i j xs y apart)
+
+-- ---- a block
+
+module _ {time : ℕ} {list : List ℤ} {limit : Option ℕ} {l₀ l₁ : List ℕ} {p : Plan} (writable : Writable time list limit l₀) (plans : Plans list limit l₀ p l₁) where
+  abbrev words : List ℕ
+  words = wordBytes (map chunkWord (chunksOf limit list))
+
+  abbrev last : List ℕ
+  last = deltas (take (takenOf limit list) list)
+
+  taken-is : deltas (take (p .taken) list) ≡ last
+  taken-is = ap (λ (n : ℕ). deltas (take n list)) (plans .taken)
+
+  start-is : 8 + 2 * p .chunks ≡ 8 + length words
+  start-is = omega (arith, plans .chunks, length-words (map chunkWord (chunksOf limit list)), length-map (chunksOf limit list) chunkWord)
+
+  used-sum : usedOf limit list ≡ 8 + 2 * p .chunks + length (deltas (take (p .taken) list))
+  unfolding body
+  used-sum = omega (arith, length-append words last, start-is, ap length taken-is)
+
+  pub deltas-storable : length l₁ ≡ length l₀ → Storable list (p .taken) l₁ (8 + 2 * p .chunks)
+  deltas-storable kept =
+      record { inside = plans .inside; valid = writable .valid; room = omega (arith, used-sum, writable .room, kept) }
+
+  module _ {l₂ : List ℕ} {end : ℕ} (stored : Stored list (p .taken) l₁ (8 + 2 * p .chunks) end l₂) where
+    pub end-is : end ≡ usedOf limit list
+    end-is = omega (arith, stored .next, used-sum)
+
+    bodied : l₂ ≡ sets l₀ 8 (body limit list)
+    unfolding body
+    bodied = stored .bytes ∙ rw (start-is, taken-is, plans .words) (sets-append l₀ 8 words last)
+
+    pub filled : (base feedback bytes : ℕ) (l₃ l₄ : List ℕ) → bytes ≡ upFour (p .used) → l₃ ≡ sets l₂ end (zeroBytes (bytes - end))
+        → l₄ ≡ sets l₃ 0 (header base (p .taken) time feedback) → Filled base time feedback list limit l₀ (record { bytes = bytes; taken = p .taken }) l₄
+    unfolding blockBytes header
+    filled base feedback bytes l₃ l₄ sized padded headed =
+        let size : bytes ≡ sizeOf limit list = sized ∙ ap upFour (plans .used) in
+        let pad = zeroBytes (sizeOf limit list - usedOf limit list) in
+        let head = header base (takenOf limit list) time feedback in
+        let rest : l₃ ≡ sets l₀ 8 (body limit list ++ pad) = padded ∙ rw (end-is, size, bodied) (sets-append l₀ 8 (body limit list) pad) in
+        record {
+          size = size;
+          taken = plans .taken;
+          block =
+              headed ∙ ap (λ (n : ℕ). sets l₃ 0 (header base n time feedback)) (plans .taken) ∙ ap (λ (l : List ℕ). sets l 0 head) rest
+              ∙ sets-before l₀ 0 8 head (body limit list ++ pad) (omega arith) ∙ sets-append l₀ 0 head (body limit list ++ pad);
+        }
+
+-- ---- the room that it needs
+
+module _ (room size : ℕ) where
+  pub enough : size ≤ room → 0 ≡ cond (ltb room size) size 0
+  enough fits = rw (le-ltb room size fits)
+
+  pub lacks : (needed : ℕ) → needed ≡ size → room < needed → needed ≡ cond (ltb room size) size 0
+  lacks needed is short = let less : room < size = omega arith in rw (lt-ltb room size less) is
+
+  -- what the code learns of it
+  pub lacked : (needed : ℕ) → needed ≡ cond (ltb room size) size 0 → 0 < needed → (needed ≡ size) × (room < size)
+  lacked needed is some =
+      by-test (ltb room size)
+      (λ e. (rw e at is, ltb-true room size e))
+      (λ e. let none : needed ≡ 0 = rw e at is in absurd (omega arith))
+
+  pub suffices : (needed : ℕ) → needed ≡ cond (ltb room size) size 0 → needed ≤ 0 → 0 < size → size ≤ room
+  suffices needed is none some =
+      by-test (ltb room size)
+      (λ e. let all : needed ≡ size = rw e at is in absurd (omega arith))
+      (λ e. ltb-false room size e)

@@ -1,0 +1,7 @@
+pub mod Words
+pub mod Ranging
+pub mod Stepping
+pub mod Planning
+pub mod Delivering
+pub mod Joining
+pub mod Answers

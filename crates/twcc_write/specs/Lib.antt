@@ -1,0 +1,6 @@
+pub mod Limits
+pub mod Steps
+pub mod Plans
+pub mod Stores
+pub mod Promise
+pub mod Unique
