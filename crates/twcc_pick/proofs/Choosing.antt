@@ -14,7 +14,7 @@ pub run-le : (ss : List ℕ) → runOf ss ≤ 8191
 unfolding runOf
 run-le ss = omega arith
 
-pack-take : (base n : ℕ) (ss : List ℕ) → pack base n ss ≡ pack base n (take n ss)
+pub pack-take : (base n : ℕ) (ss : List ℕ) → pack base n ss ≡ pack base n (take n ss)
 unfolding pack
 pack-take base zero ss = refl
 pack-take base (suc n) [] = refl

@@ -2,3 +2,4 @@ pub mod Symbols
 pub mod Counting
 pub mod Packing
 pub mod Choosing
+pub mod Sevens

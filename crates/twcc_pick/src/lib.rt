@@ -1,11 +1,11 @@
 // The chunk that a TWCC block writer picks for what remains of its list.
 ghost use mathlib.Core.Path.{_≡_};
 ghost use mathlib.Core.List.{map};
-ghost use Prim.Native.Nat.{_≤_, min};
-ghost use lib.ListN.{getD};
+ghost use Prim.Native.Nat.{_+_, _≤_, _<_, min};
+ghost use lib.ListN.{length, getD, drop};
 ghost use Rattle.twcc.specs.Words.{symbolOf};
 ghost use Rattle.twcc_plan.specs.Choice.{runOf, onesOf, isRun, isOne, chunkFor};
-ghost use Rattle.twcc_pick.specs.Picked.{picked, Places, vectorOf};
+ghost use Rattle.twcc_pick.specs.Picked.{picked, Places, vectorOf, Sevens};
 
 // The longest run that one chunk holds.
 const LONGEST_RUN: usize = 8191;
@@ -25,11 +25,23 @@ fn symbol(word: i32) -> usize
     if 32767 < word { 0 } else { received }
 }
 
+// The symbol at a place of the list.
+fn symbol_in(list: &[i32], at: usize) -> usize
+    requires { ⌜ at < length (now list) ⌝ }
+    ensures { λ r. ⌜ (r ≡ getD (map symbolOf (now (list .entry))) at 0) × (r ≤ 2) ⌝ }
+{
+    symbol(list[at])
+}
+
 // The symbol at a place, 0 past the end.
 pub fn symbol_at(list: &[i32], at: usize) -> usize
     ensures { λ r. ⌜ (r ≡ getD (map symbolOf (now (list .entry))) at 0) × (r ≤ 2) ⌝ }
 {
-    if at < list.len() { symbol(list[at]) } else { 0 }
+    if at < list.len() {
+        symbol_in(list, at)
+    } else {
+        0
+    }
 }
 
 fn lesser(a: usize, b: usize) -> usize
@@ -102,8 +114,8 @@ fn vector(rest: &[i32], base: usize, places: usize, top: usize) -> Picked
     }
 }
 
-// The chunk for what remains.
-pub fn pick(rest: &[i32]) -> Picked
+// The chunk for what remains, count by count.
+fn pick_counted(rest: &[i32]) -> Picked
     ensures { λ r. ⌜ r ≡ picked (chunkFor (map symbolOf (now (rest .entry)))) ⌝ }
 {
     let r = run_length(rest);
@@ -120,4 +132,72 @@ pub fn pick(rest: &[i32]) -> Picked
         return vector(rest, 2, 14, 32768);
     }
     vector(rest, 4, 7, 49152)
+}
+
+// Seven symbols as two-bit and as one-bit digits, their delta bytes, and how many of them are 2.
+pub struct Seven {
+    pub two: usize,
+    pub one: usize,
+    pub width: usize,
+    pub twos: usize,
+}
+
+fn gather(rest: &[i32], at: usize) -> Seven
+    requires { ⌜ at + 7 ≤ length (now rest) ⌝ }
+    ensures { λ r. ⌜ Sevens (drop at (map symbolOf (now (rest .entry)))) r ⌝ }
+{
+    let mut two: usize = 0;
+    let mut one: usize = 0;
+    let mut width: usize = 0;
+    let mut twos: usize = 0;
+    let mut n: usize = 0;
+    while n < 7 {
+        let symbol = symbol_in(rest, at + n);
+        two = two * 4 + symbol;
+        one = one * 2 + symbol;
+        width = width + symbol;
+        twos = twos + symbol / 2;
+        n = n + 1;
+    }
+    Seven {
+        two,
+        one,
+        width,
+        twos,
+    }
+}
+
+// The chunk for what remains. Seven symbols that are not all equal make no run, and a 2 among the first fourteen settles
+// which vector it is.
+pub fn pick(rest: &[i32]) -> Picked
+    ensures { λ r. ⌜ r ≡ picked (chunkFor (map symbolOf (now (rest .entry)))) ⌝ }
+{
+    if rest.len() < 14 {
+        return pick_counted(rest);
+    }
+    let a = gather(rest, 0);
+    let two = a.two;
+    if two == two / 4096 * 5461 {
+        return pick_counted(rest);
+    }
+    if 0 < a.twos {
+        return Picked {
+            word: 49152 + two,
+            count: 7,
+            width: a.width,
+        };
+    }
+    let b = gather(rest, 7);
+    if 0 < b.twos {
+        return Picked {
+            word: 49152 + two,
+            count: 7,
+            width: a.width,
+        };
+    }
+    Picked {
+        word: 32768 + a.one * 128 + b.one,
+        count: 14,
+        width: a.width + b.width,
+    }
 }

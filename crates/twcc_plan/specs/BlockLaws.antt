@@ -6,7 +6,7 @@ use mathlib.Core.List.{List, [], _∷_, _++_, map, append-assoc}
 use mathlib.Core.Option.{Option}
 use mathlib.Core.Bool.{true}
 use native.Mathlib.Omega.{arith}
-use borrow.Author.Tests.{leb-true, ltb-true}
+use borrow.Author.Tests.{leb-true, ltb-true, le-leb, lt-ltb}
 use lib.IntN.{ℤ, pos, negsuc}
 use lib.ListN.{length, take, drop, length-append, length-map}
 use Rattle.lent.specs.Bytes.{zeroBytes}
@@ -51,6 +51,16 @@ none-bad (w ∷ list) all-fine =
     by-test (inRange w)
     (λ e. let all : suc (length list) ≤ suc (front inRange list) = rw e at all-fine in (range-valid w e, none-bad list (omega arith)))
     (λ e. absurd (let z : suc (length list) ≤ 0 = rw e at all-fine in omega arith))
+
+valid-range : (w : ℤ) → Valid w → inRange w ≡ true
+unfolding inRange
+valid-range (pos n) valid = le-leb n 32768 valid
+valid-range (negsuc n) valid = lt-ltb n 32768 valid
+
+pub valid-fine : (list : List ℤ) → AllValid list → firstBad list ≡ length list
+unfolding front
+valid-fine [] valid = refl
+valid-fine (w ∷ list) valid = rw (valid-range w (valid .0)) (ap suc (valid-fine list (valid .1)))
 
 pub length-words : (ws : List ℕ) → length (wordBytes ws) ≡ 2 * length ws
 unfolding wordBytes

@@ -2,7 +2,7 @@
 use Prim.Native.Nat.{ℕ, _≤_}
 use mathlib.Core.Path.{_≡_, refl, sym, ap, _∙_}
 use mathlib.Core.List.{List}
-use mathlib.Core.Option.{Option, none, some}
+use mathlib.Core.Option.{Option}
 use native.Mathlib.Omega.{arith}
 use lib.IntN.{ℤ}
 use lib.ListN.{length}
@@ -13,16 +13,10 @@ use Rattle.lent.specs.After.{sets-over}
 use Rattle.twcc_plan.specs.Block.{takenOf, sizeOf, blockBytes}
 use Rattle.twcc_plan.specs.PlanLaws.{Within}
 use Rattle.twcc_plan.specs.BlockLaws.{block-length}
-use Rattle.twcc_write.specs.Limits.{leastOf}
 use Rattle.twcc_write.specs.Stores.{Filled}
 use Rattle.twcc_write.specs.Promise.{written, Wrote}
 use Rattle.twcc_write.specs.declared.Used.{Used}
 use Rattle.twcc_write.specs.declared.Written.the-variants.{Block, No}
-
--- a limit that no test refused
-pub eight-within : (limit : Option ℕ) → 8 ≤ leastOf limit → Within limit 8
-eight-within none eight = tt
-eight-within (some limit) eight = eight
 
 module _ {base time feedback : ℕ} {list : List ℤ} {limit : Option ℕ} {old : List ℕ} where
   pub refuses : (r : Refusal) → written time list limit (length old) ≡ no r → Wrote base time feedback list limit old (No r) old

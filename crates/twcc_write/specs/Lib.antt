@@ -3,4 +3,5 @@ pub mod Steps
 pub mod Plans
 pub mod Stores
 pub mod Promise
+pub mod Laws
 pub mod Unique

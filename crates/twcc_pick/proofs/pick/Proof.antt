@@ -1,84 +1,87 @@
--- The counts and the tests are those of the rule.
-use borrow.Author.Needs.{needs}
-use Prim.Native.Nat.{_≤_}
-use mathlib.Core.Path.{sym, ap, _∙_}
+-- What seven or fourteen symbols settle, the counts would too.
 use mathlib.Core.List.{map}
 use native.Mathlib.Omega.{arith}
-use native.Mathlib.Nat.{mul-le-mul}
+use mathlib.Core.Path.{_≡_}
 use denote.Ref.{now}
 use lib.ListN.{length-map}
 use Rattle.twcc.specs.Words.{symbolOf}
-use Rattle.twcc_plan.specs.Choice.{isOne}
-use Rattle.twcc_pick.proofs.Choosing.{run-le, picks-run, picks-one, picks-two}
+use Rattle.twcc.specs.Written.{symbols-lt}
+use Rattle.twcc_pick.proofs.Sevens.{two-early, two-late, one-whole}
+use borrow.Author.Needs.{needs}
 use Rattle.twcc_pick.proofs.pick.Statement.{statement}
 use Rattle.twcc_pick.proofs.pick.Tie as tie
 
-run-length-requires : tie.Need-run-length-requires
-run-length-requires c κs = search needs
-
-ones-length-requires : tie.Need-ones-length-requires
-ones-length-requires c κs = search needs
-
-is-run-requires : tie.Need-is-run-requires
-is-run-requires c κs = search needs
-
-symbol-at-requires : tie.Need-symbol-at-requires
-symbol-at-requires c κs = search needs
-
-mul-t6 : tie.Need-mul-t6
-mul-t6 c = search needs
-
-add-t7 : tie.Need-add-t7
-add-t7 c = omega (arith, c .before .before .before .before .run-length .ensures, run-le (map symbolOf (now (c .before .before .before .before .before .args .rest))), c .symbol-at .ensures .1)
-
-mul-t8 : tie.Need-mul-t8
-mul-t8 c =
-    let r = c .before .before .before .before .run-length in
-    let few : r .result ≤ 8191 = omega (arith, r .ensures, run-le (map symbolOf (now (c .before .before .before .before .before .args .rest)))) in
-    omega (arith, mul-le-mul (c .symbol-at .ensures .1) few)
+pick-counted-requires : tie.Need-pick-counted-requires
+pick-counted-requires c κs = search needs
 
 returns : tie.Need-returns
-returns c =
-    picks-run (map symbolOf (now (c .before .before .before .before .before .args .rest))) _ _ (c .before .before .before .before .run-length .ensures) (c .before .before .before .ones-length .ensures) _
-    (sym (c .before .before .is-run .ensures) ∙ c .before .if1 .taken) (c .symbol-at .ensures .0)
+returns c = search needs
 
-is-one-requires : tie.Need-is-one-requires
-is-one-requires c κs = search needs
+gather-requires : tie.Need-gather-requires
+gather-requires c κs = search needs
 
-vector-requires : tie.Need-vector-requires
-vector-requires c κs = search needs
+mul-if2 : tie.Need-mul-if2
+mul-if2 c = search needs
+
+pick-counted-requires-2 : tie.Need-pick-counted-requires-2
+pick-counted-requires-2 c κs = search needs
 
 returns-2 : tie.Need-returns-2
-returns-2 c =
-    let rest = now (c .before .before .before .before .before .before .before .args .rest) in
-    c .vector .ensures
-    ∙ picks-one (map symbolOf rest) _ _ (c .before .before .before .before .before .before .run-length .ensures) (c .before .before .before .before .before .ones-length .ensures) (sym (c .before .before .before .before .is-run .ensures) ∙ c .before .before .before .if1 .left)
-    (ap (isOne (c .before .before .before .before .before .ones-length .result)) (length-map rest symbolOf) ∙ sym (c .before .before .is-one .ensures) ∙ c .before .if2 .taken)
+returns-2 c = search needs
 
-vector-requires-2 : tie.Need-vector-requires-2
-vector-requires-2 c κs = search needs
+add-t8 : tie.Need-add-t8
+add-t8 c = search needs
 
 returns-3 : tie.Need-returns-3
-returns-3 c =
-    let rest = now (c .before .before .before .before .before .before .before .args .rest) in
-    c .vector2 .ensures
-    ∙ picks-two (map symbolOf rest) _ _ (c .before .before .before .before .before .before .run-length .ensures) (c .before .before .before .before .before .ones-length .ensures) (sym (c .before .before .before .before .is-run .ensures) ∙ c .before .before .before .if1 .left)
-    (ap (isOne (c .before .before .before .before .before .ones-length .result)) (length-map rest symbolOf) ∙ sym (c .before .before .is-one .ensures) ∙ c .before .if2 .left)
+returns-3 c = two-early (map symbolOf (now (c .before .before .before .before .before .args .rest))) (symbols-lt (now (c .before .before .before .before .before .args .rest))) (rw length-map (c .before .before .before .before .if1 .left)) _ (c .before .before .before .gather .ensures) (c .before .before .if2 .left) (c .if3 .taken)
+
+gather-requires-2 : tie.Need-gather-requires-2
+gather-requires-2 c κs = search needs
+
+add-t9 : tie.Need-add-t9
+add-t9 c = search needs
+
+returns-4 : tie.Need-returns-4
+returns-4 c =
+    let none : c .before .before .before .before .before .before .gather .result .twos ≡ 0 = omega (arith, c .before .before .before .if3 .left) in
+    two-late (map symbolOf (now (c .before .before .before .before .before .before .before .before .args .rest))) (symbols-lt (now (c .before .before .before .before .before .before .before .before .args .rest))) (rw length-map (c .before .before .before .before .before .before .before .if1 .left)) _ (c .before .before .before .before .before .before .gather .ensures) (c .before .before .before .before .before .if2 .left) none _ (c .before .before .gather2 .ensures) (c .if4 .taken)
+
+mul-t5 : tie.Need-mul-t5
+mul-t5 c = search needs
+
+add-t7 : tie.Need-add-t7
+add-t7 c = search needs
+
+add-t10 : tie.Need-add-t10
+add-t10 c = search needs
+
+add-t11 : tie.Need-add-t11
+add-t11 c = search needs
+
+returns-5 : tie.Need-returns-5
+returns-5 c =
+    let e = c .before .before .before .before in
+    let none : e .before .before .before .before .before .before .gather .result .twos ≡ 0 = omega (arith, e .before .before .before .if3 .left) in
+    let none-more : e .before .before .gather2 .result .twos ≡ 0 = omega (arith, e .if4 .left) in
+    one-whole (map symbolOf (now (c .before .before .before .before .before .before .before .before .before .before .before .before .args .rest))) (symbols-lt (now (c .before .before .before .before .before .before .before .before .before .before .before .before .args .rest))) (rw length-map (c .before .before .before .before .before .before .before .before .before .before .before .if1 .left)) _ (e .before .before .before .before .before .before .gather .ensures) (e .before .before .before .before .before .if2 .left) none _ (e .before .before .gather2 .ensures) none-more
 
 pub pick-spec : {M : Type 1} → statement M
 pick-spec =
     tie.close
     (tie.spec
-    run-length-requires
-    ones-length-requires
-    is-run-requires
-    symbol-at-requires
-    mul-t6
-    add-t7
-    mul-t8
+    pick-counted-requires
     returns
-    is-one-requires
-    vector-requires
+    gather-requires
+    mul-if2
+    pick-counted-requires-2
     returns-2
-    vector-requires-2
-    returns-3)
+    add-t8
+    returns-3
+    gather-requires-2
+    add-t9
+    returns-4
+    mul-t5
+    add-t7
+    add-t10
+    add-t11
+    returns-5)

@@ -10,7 +10,8 @@ use Rattle.twcc_write.specs.Limits.{limitOf, leastOf}
 use Rattle.twcc_write.specs.Plans.{Plannable}
 use Rattle.twcc_write.specs.Promise.{written}
 use Rattle.twcc_write.proofs.Joining.{lacked, suffices}
-use Rattle.twcc_write.proofs.Answers.{eight-within, refuses, gives}
+use Rattle.twcc_write.specs.Laws.{eight-within}
+use Rattle.twcc_write.proofs.Answers.{refuses, gives}
 use borrow.Author.Needs.{needs}
 use Rattle.twcc_write.proofs.write.Statement.{statement}
 use Rattle.twcc_write.proofs.write.Tie as tie

@@ -1,0 +1,148 @@
+-- The same of the code, from the promises of `write` and `read`: blocks that the writer wrote one after the other, each read
+-- by the reader, give the list; and a call on what is left is never refused where there is room.
+use Prim.Native.Nat.{ℕ, zero, _+_, _%_, _≤_, _<_}
+use mathlib.Core.Path.{_≡_, refl, sym, ap, subst, _∙_}
+use mathlib.Core.List.{List, [], _∷_, _++_, map}
+use mathlib.Core.Bool.{Bool, true, false, cond}
+use native.Mathlib.Omega.{arith}
+use borrow.Author.Tests.{le-ltb}
+use lib.Dec.{ltb}
+use lib.IntN.{ℤ}
+use lib.ListN.{length, take, drop, length-take}
+use Rattle.refusal.specs.Outcome.{gave, refuse}
+use Rattle.twcc.specs.Words.{AllValid}
+use Rattle.twcc.specs.Block.{listed}
+use Rattle.twcc_plan.specs.Block.{most, takenOf, sizeOf, blockBytes}
+use Rattle.twcc_plan.specs.PlanLaws.{wide-eight}
+use Rattle.twcc_plan.specs.BlockLaws.{block-takes, block-length, block-list, taken-fits}
+use Rattle.twcc_walk.specs.Cursors.{headerOf}
+use Rattle.twcc_walk.specs.declared.Header.{Header}
+use Rattle.twcc_read.specs.Promise.{saidReading, readAnswer, Reads}
+use Rattle.twcc_read.specs.Within.{read-within}
+use Rattle.twcc_read.specs.declared.Listed.{Listed}
+use Rattle.twcc_read.specs.declared.Reading.{Reading}
+use Rattle.twcc_read.specs.declared.Reading.the-variants as reading
+use Rattle.twcc_write.specs.Promise.{Wrote}
+use Rattle.twcc_write.specs.Laws.{usedFor, block-there, block-answered}
+use Rattle.twcc_write.specs.declared.Used.{Used}
+use Rattle.twcc_write.specs.declared.Written.{Written}
+use Rattle.twcc_write.specs.declared.Written.the-variants as written
+use Rattle.twcc_cut.specs.Numbered.{Numbered, numbered}
+use Rattle.twcc_cut.specs.Cut.{Choice, Fits, Part, partOf, Cut, AllFit, AllKept, back, cut-whole}
+use Rattle.twcc_cut.specs.Cut as cut
+
+-- one block by a call of each: the writer's buffer before and after with what it answered, and the reader's list before and
+-- after with what it answered
+pub record Call : Type 0 where
+  pub choice : Choice
+  pub before : List ℕ
+  pub used : Used
+  pub after : List ℕ
+  pub room : List ℤ
+  pub said : Listed
+  pub words : List ℤ
+
+-- the bytes that the writer wrote
+abbrev pub blockOf : Call → List ℕ
+blockOf c = take (c .used .bytes) (c .after)
+
+abbrev pub partFrom : Call → Part
+partFrom c = record { choice = c .choice; taken = c .used .taken; block = blockOf c }
+
+pub data Calls : ℕ → List ℤ → List Call → Type 0 where
+  nothing-left : {base : ℕ} → Calls base [] []
+  one-more : {base : ℕ} {list : List ℤ} {calls : List Call} (c : Call) → zero < length list
+      → Wrote base (c .choice .time) (c .choice .feedback) list (c .choice .limit) (c .before) (written.Block (c .used)) (c .after)
+      → Reads (blockOf c) (c .room) (reading.Block (c .said)) (c .words)
+      → Calls ((base + c .used .taken) % 65536) (drop (c .used .taken) list) calls
+      → Calls base list (c ∷ calls)
+
+-- what the reader gave, laid end to end
+unfoldable pub given : List Call → List Numbered
+given [] = []
+given (c ∷ calls) = numbered (c .said .header .base .0) 0 (take (c .said .count) (c .words)) ++ given calls
+
+-- ---- what the answers tell
+
+-- an answer of the reader: the block's header and its entries
+pub record Read (block : List ℕ) (said : Listed) (words : List ℤ) : Type 0 where
+  pub header : said .header ≡ headerOf block
+  pub entries : take (said .count) words ≡ listed block
+
+answer-is : {said x : Listed} (b₁ b₂ : Bool) (values values′ : List ℕ) → gave said ≡ cond b₁ (refuse 1 values) (cond b₂ (refuse 15 values′) (gave x)) → said ≡ x
+answer-is true b₂ values values′ is = cc
+answer-is false true values values′ is = cc
+answer-is false false values values′ is = cc
+
+pub read-there : (block : List ℕ) (room : List ℤ) (said : Listed) (words : List ℤ) → Reads block room (reading.Block said) words → Read block said words
+unfolding readAnswer
+read-there block room said words reads =
+    let known = read-within block room (reading.Block said) words reads in
+    let is = answer-is (ltb (length block) 8) (ltb (length room) (length (listed block))) (8 ∷ length block ∷ []) (length (listed block) ∷ length room ∷ []) (reads .answer) in
+    record {
+      header = ap (λ (l : Listed). l .header) is;
+      entries = ap (λ (n : ℕ). take n words) (known .0) ∙ known .1 .front;
+    }
+
+-- ---- that the code's blocks read as the list
+
+-- they are a cut
+calls-cut : {base : ℕ} {list : List ℤ} {calls : List Call} → Calls base list calls → Cut base list (map partFrom calls)
+calls-cut nothing-left = cut.nothing-left
+calls-cut {base} {list} (one-more {calls = calls} c there wrote reads later) =
+    let block = block-there (c .used) wrote in
+    let taken : takenOf (c .choice .limit) list ≡ c .used .taken = sym (ap (λ (u : Used). u .taken) (block .is)) in
+    let part : partOf (c .choice) base list ≡ partFrom c = λ i. record { choice = c .choice; taken = taken i; block = sym (block .there) i } in
+    let rest = subst (λ (n : ℕ). Cut ((base + n) % 65536) (drop n list) (map partFrom calls)) (sym taken) (calls-cut later) in
+    subst (λ (p : Part). Cut base list (p ∷ map partFrom calls)) part (cut.one-more (c .choice) there rest)
+
+calls-valid : {base : ℕ} {list : List ℤ} {calls : List Call} → Calls base list calls → AllValid list
+calls-valid nothing-left = tt
+calls-valid (one-more c there wrote reads later) = block-there (c .used) wrote .passed .valid
+
+-- and the reader gives what they read as
+calls-given : {base : ℕ} {list : List ℤ} {calls : List Call} → Calls base list calls → given calls ≡ back (map partFrom calls)
+unfolding given back
+calls-given nothing-left = refl
+calls-given (one-more c there wrote reads later) =
+    let read = read-there (blockOf c) (c .room) (c .said) (c .words) reads in
+    let base = ap (λ (h : Header). h .base .0) (read .header) in
+    rw (base, read .entries, calls-given later)
+
+pub record CallsWhole (base : ℕ) (list : List ℤ) (calls : List Call) : Type 0 where
+  pub each : AllKept (map partFrom calls)
+  pub read-back : given calls ≡ numbered base 0 list
+
+-- whatever limits were chosen, each call took an entry and kept within its limit, and all of them read give the list
+pub calls-whole : (base : ℕ) (list : List ℤ) (calls : List Call) → Calls base list calls → AllFit (map partFrom calls) → CallsWhole base list calls
+calls-whole base list calls made fit =
+    let whole = cut-whole base list (map partFrom calls) (calls-cut made) (calls-valid made) fit in
+    record { each = whole .each; read-back = calls-given made ∙ whole .read-back }
+
+reading-is : (r : Reading) (said : Listed) → saidReading r ≡ gave said → r ≡ reading.Block said
+reading-is (reading.Block l) said is = cc
+reading-is (reading.No q) said is = cc
+
+-- ---- that the procedure goes on: with room, no call on what is left is refused, and the writer takes an entry
+
+pub write-goes-on : {base : ℕ} {list : List ℤ} {old new : List ℕ} (c : Choice) (answer : Written) → Fits c → zero < length list → length list ≤ most → AllValid list
+    → sizeOf (c .limit) list ≤ length old → Wrote base (c .time) (c .feedback) list (c .limit) old answer new
+    → (answer ≡ written.Block (usedFor list (c .limit))) × (zero < takenOf (c .limit) list)
+write-goes-on {list = list} c answer fits there short valid room wrote = (
+  block-answered answer (record { fits = fits .1; short = short; valid = valid; eight = wide-eight (c .limit) (fits .0); enough = room }) wrote,
+  block-takes (c .limit) list (fits .0) there,
+)
+
+pub read-goes-on : (base : ℕ) (list : List ℤ) {room words : List ℤ} (c : Choice) (r : Reading) → Fits c → AllValid list → takenOf (c .limit) list ≤ length room
+    → Reads (blockBytes base (c .time) (c .feedback) (c .limit) list) room r words
+    → r ≡ reading.Block (record { header = headerOf (blockBytes base (c .time) (c .feedback) (c .limit) list); count = takenOf (c .limit) list })
+unfolding readAnswer
+read-goes-on base list {room} {words} c r fits valid enough reads =
+    let block = blockBytes base (c .time) (c .feedback) (c .limit) list in
+    let eight = wide-eight (c .limit) (fits .0) in
+    let size : 8 ≤ length block = omega (arith, block-length (c .limit) list eight base (c .time) (c .feedback)) in
+    let n : length (listed block) ≡ takenOf (c .limit) list =
+    ap length (block-list (c .limit) list eight base (c .time) (c .feedback) valid) ∙ omega (arith, length-take (takenOf (c .limit) list) list, taken-fits (c .limit) list eight) in
+    let answer : saidReading r ≡ gave (record { header = headerOf block; count = takenOf (c .limit) list }) =
+    reads .answer ∙ simp (le-ltb (length block) 8 size, n, le-ltb (length room) (takenOf (c .limit) list) enough) in
+    reading-is r _ answer

@@ -1,0 +1,131 @@
+-- Cutting a list into blocks, over the definitions of writing and reading: whatever limits are chosen, the blocks read as
+-- the list, and the procedure ends.
+use Prim.Native.Nat.{ℕ, zero, suc, _+_, _%_, _≤_, _<_}
+use mathlib.Core.Path.{_≡_, refl, sym, ap, _∙_}
+use mathlib.Core.List.{List, [], _∷_, _++_}
+use mathlib.Core.Option.{Option}
+use native.Mathlib.Nat.{add-zero}
+use native.Mathlib.Omega.{arith}
+use lib.IntN.{ℤ}
+use lib.ListN.{length, take, drop, length-take, length-drop, take-append-drop}
+use Rattle.twcc.specs.Time.{latest}
+use Rattle.twcc.specs.Words.{AllValid}
+use Rattle.twcc.specs.Block.{baseOf, referenceTime, feedbackCount, listed}
+use Rattle.twcc_plan.specs.Block.{takenOf, blockBytes}
+use Rattle.twcc_plan.specs.PlanLaws.{Within, Wide, wide-eight}
+use Rattle.twcc_plan.specs.BlockLaws.{valid-drop, taken-fits, block-takes, block-within, block-base, block-time, block-feedback, block-list}
+use Rattle.twcc_cut.specs.Numbered.{Numbered, numbered, numbered-append, numbered-moved}
+
+-- ---- the procedure
+
+-- what a block is written with
+pub record Choice : Type 0 where
+  pub limit : Option ℕ
+  pub time : ℕ
+  pub feedback : ℕ
+
+-- a limit absent or at least 24, and a time that fits
+abbrev pub Fits : Choice → Type 0
+Fits c = Wide (c .limit) × (c .time ≤ latest)
+
+-- a block, what it was written with, and the entries that it took
+pub record Part : Type 0 where
+  pub choice : Choice
+  pub taken : ℕ
+  pub block : List ℕ
+
+abbrev pub partOf : Choice → ℕ → List ℤ → Part
+partOf c base list =
+    record { choice = c; taken = takenOf (c .limit) list; block = blockBytes base (c .time) (c .feedback) (c .limit) list }
+
+-- While entries are left, write a block of what is left, with whatever is chosen for it; go on behind the entries that it
+-- took, with the base moved on by their number modulo 65,536.
+pub data Cut : ℕ → List ℤ → List Part → Type 0 where
+  nothing-left : {base : ℕ} → Cut base [] []
+  one-more : {base : ℕ} {list : List ℤ} {parts : List Part} (c : Choice) → zero < length list
+      → Cut ((base + takenOf (c .limit) list) % 65536) (drop (takenOf (c .limit) list) list) parts
+      → Cut base list (partOf c base list ∷ parts)
+
+abbrev pub AllFit : List Part → Type 0
+AllFit [] = Unit {0}
+AllFit (p ∷ parts) = Fits (p .choice) × AllFit parts
+
+-- ---- what is asked of it
+
+-- one block against what it was written with
+pub record Kept (p : Part) : Type 0 where
+  pub some-taken : zero < p .taken
+  pub within : Within (p .choice .limit) (length (p .block))
+  pub time-back : referenceTime (p .block) ≡ p .choice .time
+  pub feedback-back : feedbackCount (p .block) ≡ p .choice .feedback
+
+abbrev pub AllKept : List Part → Type 0
+AllKept [] = Unit {0}
+AllKept (p ∷ parts) = Kept p × AllKept parts
+
+-- the blocks, each read, laid end to end
+unfoldable pub back : List Part → List Numbered
+back [] = []
+back (p ∷ parts) = numbered (baseOf (p .block)) 0 (listed (p .block)) ++ back parts
+
+pub record Whole (base : ℕ) (list : List ℤ) (parts : List Part) : Type 0 where
+  pub each : AllKept parts
+  pub read-back : back parts ≡ numbered base 0 list
+
+-- ---- that it is so
+
+pub cut-whole : (base : ℕ) (list : List ℤ) (parts : List Part) → Cut base list parts → AllValid list → AllFit parts → Whole base list parts
+unfolding back numbered
+cut-whole base list parts nothing-left valid fit = record { each = tt; read-back = refl }
+cut-whole base list parts (one-more {parts = later} c there cut) valid fit =
+    let n = takenOf (c .limit) list in
+    let eight = wide-eight (c .limit) (fit .0 .0) in
+    let rest = cut-whole ((base + n) % 65536) (drop n list) later cut (valid-drop n list valid) (fit .1) in
+    let place : n ≡ 0 + length (take n list) = omega (arith, length-take n list, taken-fits (c .limit) list eight) in
+    record {
+      each = (
+        record {
+          some-taken = block-takes (c .limit) list (fit .0 .0) there;
+          within = block-within (c .limit) list eight base (c .time) (c .feedback);
+          time-back = block-time (c .limit) list eight base (c .time) (c .feedback) (fit .0 .1);
+          feedback-back = block-feedback (c .limit) list eight base (c .time) (c .feedback);
+        },
+        rest .each,
+      );
+      read-back =
+          rw (block-base (c .limit) list eight base (c .time) (c .feedback), block-list (c .limit) list eight base (c .time) (c .feedback) valid, rest .read-back, numbered-moved, add-zero n)
+          (ap (λ (k : ℕ). numbered base 0 (take n list) ++ numbered base k (drop n list)) place
+          ∙ sym (numbered-append base 0 (take n list) (drop n list)) ∙ ap (numbered base 0) (take-append-drop n list));
+    }
+
+-- ---- that it ends
+
+-- a way of choosing: what the next block is written with, from the blocks before it, the last one first
+abbrev pub Way : Type 0
+Way = List Part → Choice
+
+-- blocks that were written with what the way chose
+abbrev pub Follows : Way → List Part → List Part → Type 0
+Follows way before [] = Unit {0}
+Follows way before (p ∷ parts) = (p .choice ≡ way before) × Follows way (p ∷ before) parts
+
+ends : (most : ℕ) (way : Way) → ((before : List Part) → Fits (way before)) → (before : List Part) (base : ℕ) (list : List ℤ) → length list ≤ most
+    → (parts : List Part) × Cut base list parts × Follows way before parts × AllFit parts
+ends zero way fits before base [] few = ([], nothing-left, tt, tt)
+ends zero way fits before base (w ∷ list) few = absurd (omega arith)
+ends (suc most) way fits before base [] few = ([], nothing-left, tt, tt)
+ends (suc most) way fits before base (w ∷ list) few =
+    let c = way before in
+    let n = takenOf (c .limit) (w ∷ list) in
+    let p = partOf c base (w ∷ list) in
+    let fewer : length (drop n (w ∷ list)) ≤ most = omega (arith, length-drop n (w ∷ list), block-takes (c .limit) (w ∷ list) (fits before .0) (omega arith)) in
+    let rest = ends most way fits (p ∷ before) ((base + n) % 65536) (drop n (w ∷ list)) fewer in
+    (p ∷ rest .0, one-more {list = w ∷ list} c (omega arith) (rest .1), (refl, rest .2), (fits before, rest .3))
+
+-- Every list of words that can be written, cut in whatever way, ends in blocks that read as the list: without an error,
+-- entry for entry, the entry at place k numbered base plus k.
+pub cut-ends : (way : Way) → ((before : List Part) → Fits (way before)) → (base : ℕ) (list : List ℤ) → AllValid list
+    → (parts : List Part) × Cut base list parts × Follows way [] parts × Whole base list parts
+cut-ends way fits base list valid =
+    let cut = ends (length list) way fits [] base list (omega arith) in
+    (cut .0, cut .1, cut .2, cut-whole base list (cut .0) (cut .1) valid (cut .3))

@@ -1,0 +1,3 @@
+pub mod Numbered
+pub mod Cut
+pub mod Calls

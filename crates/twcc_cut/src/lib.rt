@@ -1,0 +1,12 @@
+// Cutting a list into blocks: the theorem that the cuts can't be seen is in specs/; here is the one number that goes from
+// block to block.
+use kinds::Seq;
+ghost use mathlib.Core.Path.{_≡_};
+ghost use Prim.Native.Nat.{_+_, _%_};
+
+// The base of the block after one that took so many entries.
+pub fn next_base(base: Seq, taken: usize) -> Seq
+    ensures { λ r. ⌜ r .0 ≡ (base .0 + taken) % 65536 ⌝ }
+{
+    base.after((taken % 65536) as u16)
+}
