@@ -1,10 +1,14 @@
 // Runs every fixed example through the public functions and prints what each answers.
 use compound::Found;
+use kinds::RefTime;
 use kinds::Seq;
 use libc::STDOUT_FILENO;
 use refusal::Checked;
 use refusal::Number;
 use refusal::Refusal;
+use twcc_read::Reading;
+use twcc_write::Limit;
+use twcc_write::Written;
 
 fn say(text: &[u8]) {
     io::write_all(STDOUT_FILENO, text);
@@ -112,7 +116,73 @@ fn say_nack_read(label: &[u8], bytes: &[u8]) {
     }
 }
 
-fn main() {
+// The block of a list at base 1, time 0 and feedback count 0.
+fn say_block(label: &[u8], list: &[i32], limit: Limit) {
+    say(label);
+    let mut out = [0u8; 24];
+    match twcc_write::write(Seq(1), RefTime(0), 0, list, limit, &mut out) {
+        Written::Block(used) => {
+            say(b" takes ");
+            say_number(used.taken as u64);
+            say(b":");
+            say_bytes(&out, used.bytes);
+        }
+        Written::No(r) => {
+            say(b" ");
+            say_values(r);
+        }
+    }
+}
+
+// A status word that the reading examples have.
+fn say_word(word: i32) {
+    if word == 32769 {
+        say(b" truncated");
+        return;
+    }
+    if word == 32770 {
+        say(b" reserved");
+        return;
+    }
+    if word == 9 {
+        say(b" 9");
+        return;
+    }
+    say(b" another");
+}
+
+fn say_words(words: &[i32], count: usize) {
+    let mut i = 0;
+    while i < count {
+        if i < words.len() {
+            say_word(words[i]);
+        }
+        i += 1;
+    }
+    say(b"\n");
+}
+
+// What a block reads as: the base, then the words.
+fn say_twcc_read(label: &[u8], block: &[u8]) {
+    say(label);
+    let mut list = [0i32; 2];
+    match twcc_read::read(block, &mut list) {
+        Reading::Block(listed) => {
+            let header = listed.header;
+            let base = header.base;
+            say(b" from");
+            say_listed(base.0);
+            say(b":");
+            say_words(&list, listed.count);
+        }
+        Reading::No(r) => {
+            say(b" ");
+            say_values(r);
+        }
+    }
+}
+
+fn compounds() {
     say(b"Compounds\n");
     let second = b"\x80\xcb\x00\x00\x40\xcb\x00\x00";
     say_parse(b"80 CB 00 00 40 CB 00 00", second);
@@ -126,10 +196,60 @@ fn main() {
     say_parse(b"80 CB 00 01", b"\x80\xcb\x00\x01");
     say_parse(b"80 CB 00 00 80", b"\x80\xcb\x00\x00\x80");
     say_parse(b"00 CB 00 01", b"\x00\xcb\x00\x01");
+}
+
+fn nacks() {
     say(b"Generic NACK\n");
     say_nack_write(b"{0, 16}:", 0, 16);
     say_nack_write(b"{0, 17}:", 0, 17);
     say_nack_write(b"{65535, 0}:", 65535, 0);
     say_nack_read(b"00 0A 00 03 FF:", b"\x00\x0a\x00\x03\xff");
     say_nack_read(b"FF FF 00 01:", b"\xff\xff\x00\x01");
+}
+
+fn blocks_written() {
+    say(b"TWCC, writing\n");
+    let lost = [32768i32; 8];
+    let many = [32768i32; 8192];
+    let zeros = [0i32; 9];
+    let large = [256i32; 8];
+    say_block(b"nothing", &lost[..0], Limit::Absent);
+    say_block(b"7 not received", &lost[..7], Limit::Absent);
+    say_block(b"8 not received", &lost, Limit::Absent);
+    say_block(b"8,192 not received", &many, Limit::Absent);
+    let small_last = [32768, 32768, 32768, 32768, 32768, 32768, 32768, 32768, 4];
+    say_block(b"8 not received, delta 4", &small_last, Limit::Absent);
+    let large_last = [32768, 32768, 32768, 32768, 32768, 32768, 32768, 32768, 256];
+    say_block(b"8 not received, delta 256", &large_last, Limit::Absent);
+    say_block(b"delta 255", &[255], Limit::Absent);
+    say_block(b"delta 256", &[256], Limit::Absent);
+    say_block(b"delta -1", &[-1], Limit::Absent);
+    say_block(b"9 of delta 0, limit 12", &zeros, Limit::Bytes(12));
+    say_block(b"9 of delta 0, limit 8", &zeros, Limit::Bytes(8));
+    say_block(b"8 large, limit 24", &large, Limit::Bytes(24));
+    say_block(b"7 large, limit 23", &large[..7], Limit::Bytes(23));
+    say_block(b"7 large, limit 24", &large[..7], Limit::Bytes(24));
+}
+
+fn blocks_read() {
+    say(b"TWCC, reading\n");
+    say_twcc_read(
+        b"00 05 00 02 00 00 00 00 E4 00 7F",
+        b"\x00\x05\x00\x02\x00\x00\x00\x00\xe4\x00\x7f",
+    );
+    say_twcc_read(
+        b"00 05 00 02 00 00 00 00 F4 00 09",
+        b"\x00\x05\x00\x02\x00\x00\x00\x00\xf4\x00\x09",
+    );
+    say_twcc_read(
+        b"00 05 00 01 00 00 00 00 20 00 20 01 09",
+        b"\x00\x05\x00\x01\x00\x00\x00\x00\x20\x00\x20\x01\x09",
+    );
+}
+
+fn main() {
+    compounds();
+    nacks();
+    blocks_written();
+    blocks_read();
 }

@@ -1,9 +1,11 @@
 -- The fixed examples, as one table of claims about the definitions. The program `examples` runs them all.
 use Prim.Native.Nat.{ℕ}
-use mathlib.Core.List.{List, [], _∷_}
+use mathlib.Core.List.{List, [], _∷_, map}
 use mathlib.Core.Path.{_≡_, refl}
 use Rattle.refusal.specs.Outcome.{gave, refuse}
 use Rattle.nack.specs.Examples.{Fixed, fixed}
+use Rattle.twcc.specs.Examples.{read, examples-read, table as blocks}
+use Rattle.twcc_plan.specs.WritingExamples.{write, examples-written, table as lists}
 use Rattle.compound.specs.Pass.{firstTurn, passFrom, firstPass}
 use Rattle.compound.specs.Walk.{step, packet, over, walkStep}
 
@@ -28,6 +30,9 @@ pub record Examples : Type 0 where
   pub version-first : firstPass (0 ∷ 203 ∷ 0 ∷ 1 ∷ []) ≡ refuse 2 (0 ∷ [])
   -- ---- generic NACK
   pub nack : Fixed
+  -- ---- TWCC: each block reads as its words, each list is written as its block
+  pub reading : map read blocks ≡ blocks
+  pub writing : map write lists ≡ lists
 
 pub examples : Examples
 unfolding firstTurn passFrom firstPass walkStep
@@ -42,4 +47,6 @@ examples =
       cut-header = refl;
       version-first = refl;
       nack = fixed;
+      reading = examples-read;
+      writing = examples-written;
     }
