@@ -8,7 +8,7 @@ use lib.ListN.{length, getD, take, drop, set, length-set}
 use lib.Seq.{sets, sets-eq, set-out, take-at}
 use Rattle.lent.specs.Bytes.{zeroBytes, fitting}
 
-pub sets-append : (out : List ℕ) (at : ℕ) (first rest : List ℕ) → sets (sets out at first) (at + length first) rest ≡ sets out at (first ++ rest)
+pub sets-append : {A : Type 0} (out : List A) (at : ℕ) (first rest : List A) → sets (sets out at first) (at + length first) rest ≡ sets out at (first ++ rest)
 sets-append out at [] rest = ap (λ (k : ℕ). sets out k rest) (add-zero at)
 sets-append out at (x ∷ first) rest =
     let next : at + suc (length first) ≡ suc at + length first = omega arith in

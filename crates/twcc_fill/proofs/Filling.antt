@@ -1,5 +1,5 @@
 -- Filling a list with status words: the words still to come, set from here on, make the whole.
-use Prim.Native.Nat.{ℕ, suc, _+_, _-_, _≤_, _<_, min}
+use Prim.Native.Nat.{ℕ, _+_, _-_, _≤_, _<_, min}
 use mathlib.Core.Path.{_≡_, refl, sym, ap, _∙_}
 use mathlib.Core.List.{List, [], _∷_, _++_, append-nil}
 use native.Mathlib.Nat.{add-zero, zero-add, add-assoc}
@@ -9,6 +9,7 @@ use borrow.Author.Tests.{lt-ltb, le-ltb}
 use lib.IntN.{ℤ}
 use lib.ListN.{length, getD, take, drop, set, length-set, length-append, length-take, drop-of-length-le}
 use lib.Seq.{sets, length-sets, sets-eq, drop-cons, drop-drop, length-take-le}
+use Rattle.lent.specs.Laws.{sets-append}
 use Rattle.twcc.specs.Words.{bytesOf, widthOf, wordOf, entries}
 use Rattle.twcc.specs.Chunks.{standsFor}
 use Rattle.twcc.specs.Block.{statusCount, symbols, blockSymbols, listed, deltasStart}
@@ -22,13 +23,6 @@ use Rattle.twcc_walk.specs.declared.Header.{Header}
 use Rattle.twcc_walk.proofs.Steps.{IsOver, IsTaken, drop-clamp}
 use Rattle.twcc_fill.specs.Filled.{Filled, AllFillable, AllFilled}
 use Rattle.twcc_fill.specs.Promise.{overFront, Fills}
-
--- words in two parts
-pub sets-append : (out : List ℤ) (at : ℕ) (first rest : List ℤ) → sets (sets out at first) (at + length first) rest ≡ sets out at (first ++ rest)
-sets-append out at [] rest = ap (λ (k : ℕ). sets out k rest) (add-zero at)
-sets-append out at (x ∷ first) rest =
-    let next : at + suc (length first) ≡ suc at + length first = omega arith in
-    ap (λ (k : ℕ). sets (sets (set out at x) (suc at) first) k rest) next ∙ sets-append (set out at x) (suc at) first rest
 
 -- words for every place
 pub sets-all : (out words : List ℤ) → length words ≡ length out → sets out 0 words ≡ words
