@@ -1,0 +1,329 @@
+//! Compounds, packets of any type, and the plain packet writer.
+
+use std::iter::FusedIterator;
+
+use crate::said::{needed, Said};
+use crate::utils::parser;
+use crate::Refusal;
+
+extern "C" {
+    fn bog_compound_parse(data: *const u8, n: usize) -> Said;
+    fn bog_unknown_parse(data: *const u8, n: usize) -> Said;
+    fn bog_walk_step(data: *const u8, n: usize, offset: u64) -> Said;
+    fn bog_unknown_write(
+        count: u8,
+        packet_type: u8,
+        body: *const u8,
+        body_n: usize,
+        padding: u8,
+        out: *mut u8,
+        out_n: usize,
+    ) -> Said;
+}
+
+/// A compound that the first pass accepted; an iterator over its packets.
+///
+/// Each item is a packet as a part of the compound's bytes. The first pass looks at the first packet's version alone, the
+/// iterator at each packet's own: a later packet of another version is an `Err`, and the iterator ends behind it.
+///
+/// ```
+/// use bogslipper::{Compound, Refusal};
+///
+/// let bytes = [0x80, 203, 0, 0, 0x81, 204, 0, 1, 1, 2, 3, 4];
+/// let packets: Result<Vec<&[u8]>, Refusal> = Compound::parse(&bytes)?.collect();
+/// assert_eq!(packets?, [&bytes[..4], &bytes[4..]]);
+/// # Ok::<(), Refusal>(())
+/// ```
+#[derive(Clone, Debug)]
+pub struct Compound<'a> {
+    data: &'a [u8],
+    offset: usize,
+}
+
+impl<'a> Compound<'a> {
+    /// Checks the lengths of all packets, the version of the first, and that none but the last is padded.
+    ///
+    /// ```
+    /// use bogslipper::{Compound, Refusal};
+    ///
+    /// assert!(Compound::parse(&[0x80, 203, 0, 0]).is_ok());
+    /// let padded_first = [0xA0, 203, 0, 0, 0x80, 203, 0, 0];
+    /// assert_eq!(Compound::parse(&padded_first).unwrap_err(), Refusal::InvalidPadding);
+    /// ```
+    ///
+    /// # Refusals
+    ///
+    /// 1 on no bytes. Then at each packet: 1, fewer than four bytes left; 2, version; 1, its length goes past the end; 5,
+    /// padding bit before the last packet. Expected lengths count from the start of the data.
+    pub fn parse(data: &'a [u8]) -> Result<Compound<'a>, Refusal> {
+        // SAFETY: the call reads the slice alone and keeps nothing of it.
+        unsafe { bog_compound_parse(data.as_ptr(), data.len()) }.answer()?;
+        Ok(Compound { data, offset: 0 })
+    }
+}
+
+impl<'a> Iterator for Compound<'a> {
+    type Item = Result<&'a [u8], Refusal>;
+
+    fn next(&mut self) -> Option<Self::Item> {
+        match walk_step(self.data, self.offset) {
+            Ok(found) => {
+                let (packet, next) = found?;
+                self.offset = next;
+                Some(Ok(packet))
+            }
+            Err(refusal) => {
+                self.offset = self.data.len();
+                Some(Err(refusal))
+            }
+        }
+    }
+}
+
+impl FusedIterator for Compound<'_> {}
+
+/// One step of the walk over bytes that need not have passed [`Compound::parse`]: the packet at an offset and the next
+/// offset, or `None` at or past the end.
+///
+/// Any offset is allowed; one inside a packet reads the bytes as they stand.
+///
+/// ```
+/// use bogslipper::compound::walk_step;
+/// use bogslipper::Refusal;
+///
+/// let bytes = [0x80, 203, 0, 0, 0x40, 203, 0, 0];
+/// assert_eq!(walk_step(&bytes, 0), Ok(Some((&bytes[..4], 4))));
+/// assert_eq!(walk_step(&bytes, 4), Err(Refusal::UnsupportedVersion { version: 1 }));
+/// assert_eq!(walk_step(&bytes, 8), Ok(None));
+/// ```
+///
+/// # Refusals
+///
+/// In this order: 1, fewer than four bytes left; 1, its length goes past the end; 2, this packet's own version.
+pub fn walk_step(data: &[u8], offset: usize) -> Result<Option<(&[u8], usize)>, Refusal> {
+    // SAFETY: the call reads the slice alone and keeps nothing of it.
+    let said = unsafe { bog_walk_step(data.as_ptr(), data.len(), offset as u64) };
+    let [over, next, start, length, _] = said.answer()?;
+    if over == 1 {
+        return Ok(None);
+    }
+    let (start, length) = (start as usize, length as usize);
+    Ok(Some((&data[start..start + length], next as usize)))
+}
+
+/// One whole packet of any type.
+///
+/// ```
+/// use bogslipper::{Refusal, Unknown};
+///
+/// let packet = Unknown::parse(&[0x81, 210, 0, 1, 9, 9, 9, 9])?;
+/// assert_eq!((packet.type_(), packet.count(), packet.length()), (210, 1, 8));
+/// # Ok::<(), Refusal>(())
+/// ```
+#[derive(Clone, Copy, Debug, PartialEq, Eq)]
+pub struct Unknown<'a> {
+    data: &'a [u8],
+}
+
+impl<'a> Unknown<'a> {
+    /// Checks that the bytes are one whole packet of version 2. Neither type nor padding is looked at.
+    ///
+    /// ```
+    /// use bogslipper::{Refusal, Unknown};
+    ///
+    /// let refusal = Refusal::TooLarge { expected: 4, actual: 5 };
+    /// assert_eq!(Unknown::parse(&[0x80, 210, 0, 0, 0]), Err(refusal));
+    /// ```
+    ///
+    /// # Refusals
+    ///
+    /// In this order: 1, fewer than four bytes; 2, version; 1, shorter than its length; 4, longer.
+    pub fn parse(data: &'a [u8]) -> Result<Unknown<'a>, Refusal> {
+        // SAFETY: the call reads the slice alone and keeps nothing of it.
+        unsafe { bog_unknown_parse(data.as_ptr(), data.len()) }.answer()?;
+        Ok(Unknown { data })
+    }
+
+    /// A writer of one packet of a type. The body is what follows the header's four bytes.
+    ///
+    /// ```
+    /// use bogslipper::{Refusal, Unknown};
+    ///
+    /// let mut buf = [0; 8];
+    /// assert_eq!(Unknown::builder(210, &[1, 2, 3, 4]).write_into(&mut buf)?, 8);
+    /// assert_eq!(buf, [0x80, 210, 0, 1, 1, 2, 3, 4]);
+    /// # Ok::<(), Refusal>(())
+    /// ```
+    pub fn builder(type_: u8, body: &'a [u8]) -> UnknownBuilder<'a> {
+        UnknownBuilder::new(type_, body)
+    }
+
+    /// The packet's bytes, header and padding included.
+    ///
+    /// ```
+    /// # use bogslipper::{Refusal, Unknown};
+    /// let bytes = [0x80, 210, 0, 0];
+    /// assert_eq!(Unknown::parse(&bytes)?.data(), bytes);
+    /// # Ok::<(), Refusal>(())
+    /// ```
+    pub fn data(&self) -> &'a [u8] {
+        self.data
+    }
+
+    /// The packet type.
+    ///
+    /// ```
+    /// # use bogslipper::{Refusal, Unknown};
+    /// assert_eq!(Unknown::parse(&[0x80, 210, 0, 0])?.type_(), 210);
+    /// # Ok::<(), Refusal>(())
+    /// ```
+    pub fn type_(&self) -> u8 {
+        accepted(parser::parse_packet_type(self.data))
+    }
+
+    /// The count; some types call it a format or a subtype.
+    ///
+    /// ```
+    /// # use bogslipper::{Refusal, Unknown};
+    /// assert_eq!(Unknown::parse(&[0x8F, 205, 0, 0])?.count(), 15);
+    /// # Ok::<(), Refusal>(())
+    /// ```
+    pub fn count(&self) -> u8 {
+        accepted(parser::parse_count(self.data))
+    }
+
+    /// The packet's length in bytes.
+    ///
+    /// ```
+    /// # use bogslipper::{Refusal, Unknown};
+    /// assert_eq!(Unknown::parse(&[0x80, 210, 0, 0])?.length(), 4);
+    /// # Ok::<(), Refusal>(())
+    /// ```
+    pub fn length(&self) -> usize {
+        self.data.len()
+    }
+
+    /// The padding count, or `None` where the padding bit is clear.
+    ///
+    /// ```
+    /// # use bogslipper::{Refusal, Unknown};
+    /// assert_eq!(Unknown::parse(&[0xA0, 210, 0, 1, 0, 0, 0, 4])?.padding(), Some(4));
+    /// # Ok::<(), Refusal>(())
+    /// ```
+    pub fn padding(&self) -> Option<u8> {
+        accepted(parser::parse_padding(self.data))
+    }
+}
+
+/// A field of a packet that [`Unknown::parse`] accepted: it has its four bytes and is whole, so no field is refused.
+fn accepted<T>(field: Result<T, Refusal>) -> T {
+    field.expect("an accepted packet is whole")
+}
+
+/// The plain packet writer: header, body and padding.
+///
+/// ```
+/// use bogslipper::{Refusal, UnknownBuilder};
+///
+/// let packet = UnknownBuilder::new(210, &[]).count(3).padding(4);
+/// let mut buf = vec![0; packet.calculate_size()?];
+/// packet.write_into(&mut buf)?;
+/// assert_eq!(buf, [0xA3, 210, 0, 1, 0, 0, 0, 4]);
+/// # Ok::<(), Refusal>(())
+/// ```
+#[derive(Clone, Copy, Debug)]
+#[must_use = "a builder writes nothing until it is told where"]
+pub struct UnknownBuilder<'a> {
+    type_: u8,
+    body: &'a [u8],
+    count: u8,
+    padding: u8,
+}
+
+impl<'a> UnknownBuilder<'a> {
+    /// A packet of a type, with count 0 and no padding. The body is what follows the header's four bytes.
+    ///
+    /// ```
+    /// use bogslipper::UnknownBuilder;
+    ///
+    /// assert_eq!(UnknownBuilder::new(210, &[1, 2, 3, 4]).calculate_size(), Ok(8));
+    /// ```
+    pub fn new(type_: u8, body: &'a [u8]) -> UnknownBuilder<'a> {
+        UnknownBuilder {
+            type_,
+            body,
+            count: 0,
+            padding: 0,
+        }
+    }
+
+    /// Sets the number of padding bytes, 0 for none.
+    ///
+    /// ```
+    /// use bogslipper::UnknownBuilder;
+    ///
+    /// assert_eq!(UnknownBuilder::new(210, &[]).padding(8).calculate_size(), Ok(12));
+    /// ```
+    pub fn padding(mut self, padding: u8) -> Self {
+        self.padding = padding;
+        self
+    }
+
+    /// Sets the count.
+    ///
+    /// ```
+    /// use bogslipper::{Refusal, UnknownBuilder};
+    ///
+    /// let refusal = Refusal::CountOutOfRange { count: 32 };
+    /// assert_eq!(UnknownBuilder::new(210, &[]).count(32).calculate_size(), Err(refusal));
+    /// ```
+    pub fn count(mut self, count: u8) -> Self {
+        self.count = count;
+        self
+    }
+
+    /// The size of the packet: four bytes, the body and the padding.
+    ///
+    /// ```
+    /// use bogslipper::UnknownBuilder;
+    ///
+    /// assert_eq!(UnknownBuilder::new(210, &[0; 16]).padding(4).calculate_size(), Ok(24));
+    /// ```
+    ///
+    /// # Refusals
+    ///
+    /// As [`UnknownBuilder::write_into`], without 15.
+    pub fn calculate_size(&self) -> Result<usize, Refusal> {
+        needed(self.write_into(&mut []))
+    }
+
+    /// Writes the packet at the front of a buffer and answers the bytes written.
+    ///
+    /// ```
+    /// use bogslipper::{Refusal, UnknownBuilder};
+    ///
+    /// let refusal = Refusal::OutputTooSmall { needed: 8, present: 7 };
+    /// assert_eq!(UnknownBuilder::new(210, &[0; 4]).write_into(&mut [0; 7]), Err(refusal));
+    /// ```
+    ///
+    /// # Refusals
+    ///
+    /// In this order: 8, count above 31; 9, padding not a multiple of 4; 11, body not a multiple of 4 or packet above
+    /// 262,144 bytes; 15, lack of room.
+    pub fn write_into(&self, buf: &mut [u8]) -> Result<usize, Refusal> {
+        // SAFETY: the call reads the body and writes the buffer, which do not overlap, and keeps nothing of either.
+        let said = unsafe {
+            bog_unknown_write(
+                self.count,
+                self.type_,
+                self.body.as_ptr(),
+                self.body.len(),
+                self.padding,
+                buf.as_mut_ptr(),
+                buf.len(),
+            )
+        };
+        let [written, ..] = said.answer()?;
+        Ok(written as usize)
+    }
+}

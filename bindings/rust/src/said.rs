@@ -1,0 +1,28 @@
+//! What the calls of `include/bogslipper.h` say, and the way from there to a `Result`.
+
+use crate::Refusal;
+
+/// An answer (number 0) or a numbered refusal, and the values of either.
+#[repr(C)]
+pub(crate) struct Said {
+    number: u64,
+    values: [u64; 5],
+}
+
+impl Said {
+    /// The answer's values. They fit the types that the callers of this crate get: the library's contracts bound them.
+    pub(crate) fn answer(self) -> Result<[u64; 5], Refusal> {
+        match self.number {
+            0 => Ok(self.values),
+            number => Err(Refusal::new(number, self.values)),
+        }
+    }
+}
+
+/// The room that an answer needs, learnt from the call with no room at all.
+pub(crate) fn needed(answer_without_room: Result<usize, Refusal>) -> Result<usize, Refusal> {
+    match answer_without_room {
+        Err(Refusal::OutputTooSmall { needed, .. }) => Ok(needed),
+        answer => answer,
+    }
+}

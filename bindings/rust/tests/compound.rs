@@ -1,0 +1,208 @@
+//! Compounds and their walk, packets of any type, and the plain packet writer.
+
+mod common;
+
+use bogslipper::compound::walk_step;
+use bogslipper::{Compound, Refusal, Unknown, UnknownBuilder};
+use common::{bytes, Random};
+
+fn refused(hex: &str) -> Refusal {
+    Compound::parse(&bytes(hex)).expect_err("a refusal")
+}
+
+#[test]
+fn fixed_example_second_version() {
+    let data = bytes("80 CB 00 00 40 CB 00 00");
+    let mut compound = Compound::parse(&data).expect("the first version alone is looked at");
+    assert_eq!(compound.next(), Some(Ok(&data[..4])));
+    assert_eq!(
+        compound.next(),
+        Some(Err(Refusal::UnsupportedVersion { version: 1 }))
+    );
+    assert_eq!(compound.next(), None);
+    assert_eq!(compound.next(), None);
+}
+
+#[test]
+fn fixed_examples_refused() {
+    assert_eq!(refused("A0 CB 00 00 80 CB 00 00"), Refusal::InvalidPadding);
+    assert_eq!(
+        refused("80 CB 00 01"),
+        Refusal::Truncated {
+            expected: 8,
+            actual: 4
+        }
+    );
+    assert_eq!(
+        refused("80 CB 00 00 80"),
+        Refusal::Truncated {
+            expected: 8,
+            actual: 5
+        }
+    );
+    assert_eq!(
+        refused("00 CB 00 01"),
+        Refusal::UnsupportedVersion { version: 0 }
+    );
+    assert_eq!(
+        refused(""),
+        Refusal::Truncated {
+            expected: 4,
+            actual: 0
+        }
+    );
+}
+
+#[test]
+fn the_walk_tests_the_length_before_the_version() {
+    assert_eq!(
+        walk_step(&bytes("00 CB 00 01"), 0),
+        Err(Refusal::Truncated {
+            expected: 8,
+            actual: 4
+        })
+    );
+}
+
+#[test]
+fn the_walk_takes_any_offset() {
+    let data = bytes("80 CB 00 00 80 CC 00 01 80 00 00 00");
+    assert_eq!(walk_step(&data, 4), Ok(Some((&data[4..12], 12))));
+    assert_eq!(walk_step(&data, 8), Ok(Some((&data[8..12], 12))));
+    assert_eq!(
+        walk_step(&data, 11),
+        Err(Refusal::Truncated {
+            expected: 15,
+            actual: 12
+        })
+    );
+    for past in [12, 13, usize::MAX] {
+        assert_eq!(walk_step(&data, past), Ok(None));
+    }
+}
+
+#[test]
+fn a_padded_last_packet_passes() {
+    let data = bytes("80 CB 00 00 A0 CB 00 01 00 00 00 04");
+    let packets: Result<Vec<_>, _> = Compound::parse(&data).expect("a compound").collect();
+    assert_eq!(packets, Ok(vec![&data[..4], &data[4..]]));
+}
+
+#[test]
+fn one_packet_of_any_type_tests_in_its_order() {
+    let parse = |hex: &str| Unknown::parse(&bytes(hex)).map(|packet| packet.length());
+    let truncated = |expected, actual| Err(Refusal::Truncated { expected, actual });
+
+    assert_eq!(parse("00 00 00"), truncated(4, 3));
+    assert_eq!(
+        parse("C0 00 00 01"),
+        Err(Refusal::UnsupportedVersion { version: 3 })
+    );
+    assert_eq!(parse("80 00 00 01"), truncated(8, 4));
+    assert_eq!(
+        parse("80 00 00 00 00"),
+        Err(Refusal::TooLarge {
+            expected: 4,
+            actual: 5
+        })
+    );
+    assert_eq!(parse("A0 00 00 00"), Ok(4));
+}
+
+#[test]
+fn the_writer_tests_in_its_order() {
+    let odd = [0; 5];
+    let write = |count, padding, body| {
+        UnknownBuilder::new(0, body)
+            .count(count)
+            .padding(padding)
+            .write_into(&mut [0; 8])
+    };
+
+    assert_eq!(
+        write(32, 3, &odd[..]),
+        Err(Refusal::CountOutOfRange { count: 32 })
+    );
+    assert_eq!(
+        write(31, 3, &odd[..]),
+        Err(Refusal::UnevenPadding { padding: 3 })
+    );
+    assert_eq!(
+        write(31, 4, &odd[..]),
+        Err(Refusal::BodyLength { length: 5 })
+    );
+    assert_eq!(
+        write(31, 4, &odd[..4]),
+        Err(Refusal::OutputTooSmall {
+            needed: 12,
+            present: 8
+        })
+    );
+    assert_eq!(write(31, 4, &[]), Ok(8));
+}
+
+#[test]
+fn the_largest_packet_is_written_and_no_larger() {
+    let body = vec![7; 262_144];
+    let largest = UnknownBuilder::new(210, &body[..262_140]);
+    assert_eq!(largest.calculate_size(), Ok(262_144));
+    assert_eq!(
+        largest.padding(4).calculate_size(),
+        Err(Refusal::BodyLength { length: 262_140 })
+    );
+    assert_eq!(
+        UnknownBuilder::new(210, &body).calculate_size(),
+        Err(Refusal::BodyLength { length: 262_144 })
+    );
+    let mut buf = vec![0; 262_144];
+    assert_eq!(largest.write_into(&mut buf), Ok(262_144));
+    assert_eq!(
+        Unknown::parse(&buf).map(|packet| packet.length()),
+        Ok(262_144)
+    );
+}
+
+#[test]
+fn a_refused_write_leaves_the_buffer() {
+    let mut buf = [0x55; 11];
+    assert!(UnknownBuilder::new(210, &[1; 8])
+        .write_into(&mut buf)
+        .is_err());
+    assert_eq!(buf, [0x55; 11]);
+}
+
+#[test]
+fn written_compounds_are_walked_back() {
+    let mut random = Random(2);
+    for _ in 0..2_000 {
+        let number = 1 + random.below(6);
+        let mut data = Vec::new();
+        let mut packets = Vec::new();
+        for place in 0..number {
+            let body: Vec<u8> = (0..4 * random.below(9))
+                .map(|_| random.below(256) as u8)
+                .collect();
+            let (type_, count) = (random.below(256) as u8, random.below(32) as u8);
+            let padding = if place + 1 == number {
+                4 * random.below(64) as u8
+            } else {
+                0
+            };
+            let builder = Unknown::builder(type_, &body).count(count).padding(padding);
+            let size = builder.calculate_size().expect("a size");
+            let mut buf = vec![0x55; size + 5];
+            assert_eq!(builder.write_into(&mut buf), Ok(size));
+            assert_eq!(buf[size..], [0x55; 5]);
+            buf.truncate(size);
+
+            let packet = Unknown::parse(&buf).expect("what was written");
+            assert_eq!((packet.type_(), packet.count()), (type_, count));
+            assert_eq!(packet.padding(), (padding > 0).then_some(padding));
+            assert_eq!(packet.data()[4..size - usize::from(padding)], body);
+            data.extend(&buf);
+            packets.push(buf);
+        }
+        let walked: Result<Vec<_>, _> = Compound::parse(&data).expect("a compound").collect();
+        assert_eq!(walked, Ok(packets.iter().map(Vec::as_slice).collect()));
+    }
+}
