@@ -6,8 +6,8 @@ use libc::STDOUT_FILENO;
 use refusal::Checked;
 use refusal::Number;
 use refusal::Refusal;
+use twcc_chunks::Limit;
 use twcc_read::Reading;
-use twcc_write::Limit;
 use twcc_write::Written;
 
 fn say(text: &[u8]) {

@@ -3,3 +3,4 @@ pub mod Counting
 pub mod Packing
 pub mod Choosing
 pub mod Sevens
+pub mod Ranging

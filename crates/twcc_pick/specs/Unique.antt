@@ -1,10 +1,11 @@
--- No slack: two chunks picked for the same list are equal, and so are two symbols at the same place.
+-- No slack: two answers about the same list are equal.
 use Prim.Native.Nat.{ℕ, _≤_}
 use mathlib.Core.Path.{_≡_, sym, _∙_}
 use mathlib.Core.List.{List, map}
 use lib.IntN.{ℤ}
 use lib.ListN.{getD}
 use Rattle.twcc.specs.Words.{symbolOf}
+use Rattle.twcc_plan.specs.Block.{firstBad}
 use Rattle.twcc_plan.specs.Choice.{chunkFor}
 use Rattle.twcc_pick.specs.Picked.{picked}
 use Rattle.twcc_pick.specs.declared.Picked.{Picked}
@@ -14,3 +15,6 @@ pick-unique rest a b one two = one ∙ sym two
 
 pub symbol-unique : (list : List ℤ) (at a b : ℕ) → (a ≡ getD (map symbolOf list) at 0) × (a ≤ 2) → (b ≡ getD (map symbolOf list) at 0) × (b ≤ 2) → a ≡ b
 symbol-unique list at a b one two = one .0 ∙ sym (two .0)
+
+pub first-bad-unique : (list : List ℤ) (a b : ℕ) → a ≡ firstBad list → b ≡ firstBad list → a ≡ b
+first-bad-unique list a b one two = one ∙ sym two

@@ -1,9 +1,11 @@
-// The chunk that a TWCC block writer picks for what remains of its list.
+// What a TWCC block writer sees in its list: the first word that can't be written, and the chunk picked for what remains.
 ghost use mathlib.Core.Path.{_≡_};
 ghost use mathlib.Core.List.{map};
 ghost use Prim.Native.Nat.{_+_, _≤_, _<_, min};
+ghost use lib.IntN.{pos};
 ghost use lib.ListN.{length, getD, drop};
 ghost use Rattle.twcc.specs.Words.{symbolOf};
+ghost use Rattle.twcc_plan.specs.Block.{inRange, firstBad};
 ghost use Rattle.twcc_plan.specs.Choice.{runOf, onesOf, isRun, isOne, chunkFor};
 ghost use Rattle.twcc_pick.specs.Picked.{picked, Places, vectorOf, Sevens};
 
@@ -200,4 +202,34 @@ pub fn pick(rest: &[i32]) -> Picked
         count: 14,
         width: a.width + b.width,
     }
+}
+
+fn in_range(word: i32) -> bool
+    ensures { λ r. ⌜ r ≡ inRange word ⌝ }
+{
+    if word < -32768 {
+        return false;
+    }
+    word <= 32768
+}
+
+fn fine_at(list: &[i32], at: usize) -> bool
+    requires { ⌜ at < length (now list) ⌝ }
+    ensures { λ r. ⌜ r ≡ inRange (getD (now (list .entry)) at (pos 0)) ⌝ }
+{
+    in_range(list[at])
+}
+
+// The first place of a word out of range, or the list's length.
+pub fn first_bad(list: &[i32]) -> usize
+    ensures { λ r. ⌜ r ≡ firstBad (now (list .entry)) ⌝ }
+{
+    let mut n: usize = 0;
+    while n < list.len() {
+        if !fine_at(list, n) {
+            return n;
+        }
+        n = n + 1;
+    }
+    n
 }

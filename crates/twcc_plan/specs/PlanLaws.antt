@@ -57,7 +57,7 @@ front-ones (suc n) (x ∷ xs) ones =
 
 -- ---- delta bytes of symbols
 
-width-run : (n s : ℕ) → s < 3 → widthOf (replicate n s) ≡ s * n
+pub width-run : (n s : ℕ) → s < 3 → widthOf (replicate n s) ≡ s * n
 unfolding widthOf
 width-run zero s known = omega arith
 width-run (suc n) s known = omega (arith, bytes-symbol s known, width-run n s known)
@@ -277,6 +277,11 @@ plan-planned limit zero used taken (s ∷ ss) below within =
     (λ c good fits. rw (← (drop-pred (takenBy c) s ss (good-taken (s ∷ ss) c good .0)))
     (plan-planned limit (pred (takenBy c)) (used + 2 + widthBy c) (taken + takenBy c) ss (below .1) fits))
 plan-planned limit (suc skip) used taken (s ∷ ss) below within = plan-planned limit skip used taken ss (below .1) within
+
+-- a plan within a limit is one without
+pub planned-free : (limit : Option ℕ) (used : ℕ) (cs : List Chunk) (ss : List ℕ) → Planned limit used cs ss → Planned none used cs ss
+planned-free limit used [] ss planned = tt
+planned-free limit used (c ∷ cs) ss planned = (planned .0, planned-free limit (used + 2 + widthBy c) cs (drop (takenBy c) ss) (planned .1))
 
 -- a plan's steps: skipping is dropping; where a step stops the plan ends, where it takes a chunk the plan goes on behind it
 pub plan-skip : (limit : Option ℕ) (skip used taken : ℕ) (ss : List ℕ) → plan limit skip used taken ss ≡ plan limit 0 used taken (drop skip ss)

@@ -45,12 +45,11 @@ pub delivering-start : (list : List ℤ) (entries : ℕ) (out : List ℕ) (at : 
 delivering-start list entries out at = record { within = omega arith; same = refl; place = rw sub-zero refl; left = rw sub-zero refl }
 
 module _ {list : List ℤ} {entries : ℕ} {out₀ out : List ℕ} {at p n : ℕ} (d : Delivering list entries out₀ at out p n) where
-  pub delivering-over : entries ≤ n → Stored list entries out₀ at p out
+  pub delivering-over : entries ≤ n → Stored list entries out₀ at out
   unfolding deltas
   delivering-over over =
       let none : entries - n ≡ 0 = omega (arith, d .within) in
-      let place = rw none at (d .place) in
-      record { next = omega (arith, place); bytes = rw none at (d .left) }
+      rw none at (d .left)
 
   module _ (storable : Storable list entries out₀ at) (more : n < entries) where
     inside : n < length list

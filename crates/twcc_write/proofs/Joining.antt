@@ -1,6 +1,6 @@
 -- The parts of a block, stored one by one, are the block; and the room that it needs.
 use Prim.Native.Nat.{ℕ, suc, _+_, _*_, _-_, _≤_, _<_}
-use mathlib.Core.Path.{_≡_, refl, ap, _∙_}
+use mathlib.Core.Path.{_≡_, refl, sym, ap, _∙_}
 use mathlib.Core.List.{List, [], _∷_, _++_, map}
 use mathlib.Core.Option.{Option}
 use mathlib.Core.Bool.{cond}
@@ -12,15 +12,17 @@ use lib.ListN.{length, take, set, length-append, length-map}
 use lib.Seq.{sets, set-comm}
 use Rattle.lent.specs.Bytes.{zeroBytes}
 use Rattle.lent.specs.Laws.{sets-append}
-use Rattle.twcc.specs.Words.{deltas}
+use Rattle.twcc.specs.Words.{symbolOf, deltas}
 use Rattle.twcc.specs.Chunks.{chunkWord}
 use Rattle.twcc.specs.Written.{by-test, wordBytes}
 use Rattle.twcc_plan.specs.Limits.{upFour}
 use Rattle.twcc_plan.specs.Block.{header, chunksOf, takenOf, body, usedOf, sizeOf, blockBytes}
-use Rattle.twcc_plan.specs.BlockLaws.{length-words}
-use Rattle.twcc_write.specs.Plans.{Plans}
-use Rattle.twcc_write.specs.Stores.{Storable, Stored, Writable, Filled}
-use Rattle.twcc_write.specs.declared.Plan.{Plan}
+use Rattle.twcc_plan.specs.BlockLaws.{length-words, block-planned, used-is}
+use Rattle.twcc_plan.specs.PlanLaws.{Within, planned-free}
+use Rattle.twcc_chunks.specs.Plans.{Plans}
+use Rattle.twcc_write.specs.Stores.{Storable, Stored, Deliverable, Writable, Filled}
+use Rattle.twcc_chunks.specs.declared.Plan.{Plan}
+use Rattle.twcc_write.proofs.Bytes.{getD-stored}
 
 -- ---- stores in another order
 
@@ -49,30 +51,46 @@ module _ {time : ℕ} {list : List ℤ} {limit : Option ℕ} {l₀ l₁ : List �
   start-is : 8 + 2 * p .chunks ≡ 8 + length words
   start-is = omega (arith, plans .chunks, length-words (map chunkWord (chunksOf limit list)), length-map (chunksOf limit list) chunkWord)
 
+  all-used : p .used ≡ usedOf limit list
+  all-used = plans .used ∙ sym (used-is limit list (writable .plannable .eight))
+
   used-sum : usedOf limit list ≡ 8 + 2 * p .chunks + length (deltas (take (p .taken) list))
   unfolding body
   used-sum = omega (arith, length-append words last, start-is, ap length taken-is)
 
-  pub deltas-storable : length l₁ ≡ length l₀ → Storable list (p .taken) l₁ (8 + 2 * p .chunks)
+  deltas-storable : length l₁ ≡ length l₀ → Storable list (p .taken) l₁ (8 + 2 * p .chunks)
   deltas-storable kept =
       record { inside = plans .inside; valid = writable .valid; room = omega (arith, used-sum, writable .room, kept) }
 
-  module _ {l₂ : List ℕ} {end : ℕ} (stored : Stored list (p .taken) l₁ (8 + 2 * p .chunks) end l₂) where
-    pub end-is : end ≡ usedOf limit list
-    end-is = omega (arith, stored .next, used-sum)
+  pub deliverable : length l₁ ≡ length l₀ → Deliverable list (p .chunks) (p .taken) l₁ (p .used)
+  unfolding takenOf
+  deliverable kept =
+      let room : 8 + length words ≤ length l₀ = omega (arith, used-sum, writable .room, start-is) in
+      record {
+        storable = deltas-storable kept;
+        ends = all-used ∙ used-sum;
+        short = writable .plannable .short;
+        plan = chunksOf limit list;
+        planned = planned-free limit 8 (chunksOf limit list) (map symbolOf list) (block-planned limit list (writable .plannable .eight));
+        count = plans .chunks;
+        takes = plans .taken;
+        stands = λ i inside.
+            rw (plans .words) (getD-stored l₀ 8 words i 0 (omega (arith, start-is, plans .chunks)) room);
+      }
 
+  module _ {l₂ : List ℕ} (stored : Stored list (p .taken) l₁ (8 + 2 * p .chunks) l₂) where
     bodied : l₂ ≡ sets l₀ 8 (body limit list)
     unfolding body
-    bodied = stored .bytes ∙ rw (start-is, taken-is, plans .words) (sets-append l₀ 8 words last)
+    bodied = stored ∙ rw (start-is, taken-is, plans .words) (sets-append l₀ 8 words last)
 
-    pub filled : (base feedback bytes : ℕ) (l₃ l₄ : List ℕ) → bytes ≡ upFour (p .used) → l₃ ≡ sets l₂ end (zeroBytes (bytes - end))
+    pub filled : (base feedback bytes : ℕ) (l₃ l₄ : List ℕ) → bytes ≡ p .bytes → l₃ ≡ sets l₂ (p .used) (zeroBytes (bytes - p .used))
         → l₄ ≡ sets l₃ 0 (header base (p .taken) time feedback) → Filled base time feedback list limit l₀ (record { bytes = bytes; taken = p .taken }) l₄
     unfolding blockBytes header
     filled base feedback bytes l₃ l₄ sized padded headed =
-        let size : bytes ≡ sizeOf limit list = sized ∙ ap upFour (plans .used) in
+        let size : bytes ≡ sizeOf limit list = sized ∙ plans .bytes ∙ ap upFour all-used in
         let pad = zeroBytes (sizeOf limit list - usedOf limit list) in
         let head = header base (takenOf limit list) time feedback in
-        let rest : l₃ ≡ sets l₀ 8 (body limit list ++ pad) = padded ∙ rw (end-is, size, bodied) (sets-append l₀ 8 (body limit list) pad) in
+        let rest : l₃ ≡ sets l₀ 8 (body limit list ++ pad) = padded ∙ rw (all-used, size, bodied) (sets-append l₀ 8 (body limit list) pad) in
         record {
           size = size;
           taken = plans .taken;
@@ -82,6 +100,9 @@ module _ {time : ℕ} {list : List ℤ} {limit : Option ℕ} {l₀ l₁ : List �
         }
 
 -- ---- the room that it needs
+
+pub plan-size : {list : List ℤ} {limit : Option ℕ} {old new : List ℕ} {p : Plan} → Within limit 8 → Plans list limit old p new → p .bytes ≡ sizeOf limit list
+plan-size {list} {limit} eight plans = plans .bytes ∙ ap upFour (plans .used ∙ sym (used-is limit list eight))
 
 module _ (room size : ℕ) where
   pub enough : size ≤ room → 0 ≡ cond (ltb room size) size 0

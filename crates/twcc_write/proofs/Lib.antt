@@ -1,7 +1,8 @@
 pub mod Words
-pub mod Ranging
-pub mod Stepping
-pub mod Planning
 pub mod Delivering
+pub mod Bytes
+pub mod Spreading
+pub mod Running
+pub mod Carrying
 pub mod Joining
 pub mod Answers

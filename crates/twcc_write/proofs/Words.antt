@@ -1,35 +1,19 @@
 -- One status word, by what the machine's tests and sums tell of it.
-use Prim.Native.Nat.{ℕ, zero, suc, _+_, _-_, _%_, _≤_, _<_}
-use mathlib.Core.Path.{_≡_, refl, sym, ap, subst, _∙_}
+use Prim.Native.Nat.{ℕ, zero, suc, _+_, _-_, _%_, _<_}
+use mathlib.Core.Path.{_≡_, refl, sym, ap, subst}
 use mathlib.Core.List.{List, [], _∷_}
-use mathlib.Core.Bool.{Bool, true, false, true≢false}
+use mathlib.Core.Bool.{false}
 use native.Mathlib.Omega.{arith}
 use native.Mathlib.Nat.{not-suc-le-zero, le-of-suc-le-suc}
-use borrow.Author.Tests.{ltb-true, ltb-false, lt-ltb, le-ltb}
+use borrow.Author.Tests.{ltb-true, le-ltb}
 use lib.Dec.{T, ltb}
 use lib.IntN.{ℤ, pos, negsuc, _+ℤ_, natAbs}
 use lib.ListN.{length, getD}
-use lib.Signed.{ltZ, leZ, nonNeg}
-use mir.Syntax.{w32}
-use mir.Val.{Fits, SFits, toZ, ofZ}
-use mir.Facts.{toZ-ofZ}
+use lib.Signed.{nonNeg}
+use mir.Syntax.{w8, w32}
+use mir.Val.{Fits, SFits}
 use Rattle.twcc.specs.Words.{Valid, AllValid, symbolOf, bits16}
 use Rattle.twcc.specs.Written.{by-test}
-use Rattle.twcc_plan.specs.Block.{inRange}
-
--- a test of the bits is a test of the number
-pub read : {w : ℤ} (f : ℤ → Bool) {t : Bool} → SFits w32 w → f (toZ w32 (ofZ w32 w)) ≡ t → f w ≡ t
-read {w} f fits e = ap f (sym (toZ-ofZ {w = w32} {z = w} fits)) ∙ e
-
-pub range-low : (w : ℤ) → ltZ w (negsuc 32767) ≡ true → false ≡ inRange w
-unfolding inRange
-range-low (pos n) e = absurd (true≢false (sym e))
-range-low (negsuc n) e = sym (le-ltb n 32768 (ltb-true 32767 n e))
-
-pub range-high : (w : ℤ) → ltZ w (negsuc 32767) ≡ false → leZ w (pos 32768) ≡ inRange w
-unfolding inRange
-range-high (pos n) e = refl
-range-high (negsuc n) e = sym (lt-ltb n 32768 (let few : n ≤ 32767 = ltb-false 32767 n e in omega arith))
 
 pub valid-at : (list : List ℤ) (n : ℕ) (d : ℤ) → AllValid list → n < length list → Valid (getD list n d)
 valid-at [] n d valid inside = absurd (not-suc-le-zero inside)
@@ -79,3 +63,11 @@ small-bits (pos n) one =
     (λ f. absurd (let z : _≡_ {A = ℕ} 2 1 = rw (e, f) at one in omega arith))
     (λ f. absurd (let z : _≡_ {A = ℕ} 0 1 = rw (e, f) at one in omega arith)))
 small-bits (negsuc n) one = absurd (omega arith)
+
+pub small-word : (w : ℤ) → symbolOf w ≡ 1 → w ≡ pos (bits16 w)
+unfolding symbolOf bits16
+small-word (pos n) one = refl
+small-word (negsuc n) one = absurd (omega arith)
+
+pub byte-casts : {z : ℤ} {n : ℕ} → z ≡ pos n → n < 256 → T (nonNeg z) × Fits w8 (natAbs z)
+byte-casts {z} {n} is few = subst (λ (z : ℤ). T (nonNeg z) × Fits w8 (natAbs z)) (sym is) (tt, record { fits = omega arith })

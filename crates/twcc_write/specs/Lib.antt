@@ -1,6 +1,4 @@
 pub mod Limits
-pub mod Steps
-pub mod Plans
 pub mod Stores
 pub mod Promise
 pub mod Laws

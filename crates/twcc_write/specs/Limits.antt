@@ -1,14 +1,8 @@
--- A size limit as the definitions have it.
+-- The limit that the writer tests.
 use Prim.Native.Nat.{ℕ}
 use mathlib.Core.Option.{Option, none, some}
-use Rattle.twcc_write.specs.declared.Limit.{Limit}
-use Rattle.twcc_write.specs.declared.Limit.the-variants.{Absent, Bytes}
 
-abbrev pub limitOf : Limit → Option ℕ
-limitOf Absent = none
-limitOf (Bytes most) = some most
-
--- what is tested against the least limit; no block has fewer than eight bytes
+-- no block has fewer than eight bytes
 abbrev pub leastOf : Option ℕ → ℕ
 leastOf none = 8
 leastOf (some most) = most

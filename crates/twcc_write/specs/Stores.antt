@@ -1,15 +1,18 @@
 -- What the stores of deltas and of a whole block ask and promise.
-use Prim.Native.Nat.{ℕ, _+_, _≤_, _<_}
+use Prim.Native.Nat.{ℕ, _+_, _*_, _/_, _≤_, _<_}
 use mathlib.Core.Path.{_≡_}
-use mathlib.Core.List.{List}
-use mathlib.Core.Option.{Option}
+use mathlib.Core.List.{List, _++_, map}
+use mathlib.Core.Option.{Option, none}
 use lib.IntN.{ℤ, pos}
-use lib.ListN.{length, getD, take}
+use lib.ListN.{length, getD, take, replicate}
 use lib.Seq.{sets}
 use Rattle.twcc.specs.Time.{latest}
 use Rattle.twcc.specs.Words.{Valid, AllValid, symbolOf, deltaBytes, deltas}
-use Rattle.twcc_plan.specs.Block.{takenOf, sizeOf, blockBytes}
-use Rattle.twcc_write.specs.Plans.{Plannable}
+use Rattle.twcc.specs.Chunks.{Chunk, chunkWord}
+use Rattle.twcc.specs.Written.{wordBytes}
+use Rattle.twcc_plan.specs.Plan.{takenIn}
+use Rattle.twcc_plan.specs.Block.{most, takenOf, sizeOf, blockBytes}
+use Rattle.twcc_plan.specs.PlanLaws.{Within, Planned}
 use Rattle.twcc_write.specs.declared.Used.{Used}
 
 -- ---- one delta
@@ -26,6 +29,12 @@ pub record DeltaStored (list : List ℤ) (n : ℕ) (old : List ℕ) (at to : ℕ
   pub next : to ≡ at + symbolOf (wordAt list n)
   pub bytes : new ≡ sets old at (deltaBytes (wordAt list n))
 
+-- the same, but for bytes behind it up to a place `end`: once they are stored too, nothing else shows
+pub record QuickStored (list : List ℤ) (n : ℕ) (old : List ℕ) (at end to : ℕ) (new : List ℕ) : Type 0 where
+  pub next : to ≡ at + symbolOf (wordAt list n)
+  pub kept : (i : ℕ) → i < at → getD new i 0 ≡ getD old i 0
+  pub further : (xs : List ℕ) → to + length xs ≡ end → sets new to xs ≡ sets old at (deltaBytes (wordAt list n) ++ xs)
+
 -- ---- the deltas of the first entries
 
 pub record Storable (list : List ℤ) (entries : ℕ) (out : List ℕ) (at : ℕ) : Type 0 where
@@ -33,11 +42,41 @@ pub record Storable (list : List ℤ) (entries : ℕ) (out : List ℕ) (at : ℕ
   pub valid : AllValid list
   pub room : at + length (deltas (take entries list)) ≤ length out
 
-pub record Stored (list : List ℤ) (entries : ℕ) (old : List ℕ) (at to : ℕ) (new : List ℕ) : Type 0 where
+abbrev pub Stored : List ℤ → ℕ → List ℕ → ℕ → List ℕ → Type 0
+Stored list entries old at new = new ≡ sets old at (deltas (take entries list))
+
+pub record Reached (list : List ℤ) (entries : ℕ) (old : List ℕ) (at end to : ℕ) (new : List ℕ) : Type 0 where
   pub next : to ≡ at + length (deltas (take entries list))
-  pub bytes : new ≡ sets old at (deltas (take entries list))
+  pub kept : (i : ℕ) → i < at → getD new i 0 ≡ getD old i 0
+  pub further : (xs : List ℕ) → to + length xs ≡ end → sets new to xs ≡ sets old at (deltas (take entries list) ++ xs)
+
+-- the first entries have one symbol
+pub record RunStorable (list : List ℤ) (symbol entries : ℕ) (out : List ℕ) (at : ℕ) : Type 0 where
+  pub storable : Storable list entries out at
+  pub same : take entries (map symbolOf list) ≡ replicate entries symbol
+
+-- they are those of a chunk: of a run's word, all have its symbol
+pub record ChunkStorable (list : List ℤ) (word entries : ℕ) (out : List ℕ) (at : ℕ) : Type 0 where
+  pub storable : Storable list entries out at
+  pub run : word < 32768 → (word / 8192 ≤ 2) × (take entries (map symbolOf list) ≡ replicate entries (word / 8192))
+
+-- the words of a plan's chunks stand behind the header's place, and there is room for the deltas
+pub record Deliverable (list : List ℤ) (chunks taken : ℕ) (out : List ℕ) (end : ℕ) : Type 0 where
+  pub storable : Storable list taken out (8 + 2 * chunks)
+  pub ends : end ≡ 8 + 2 * chunks + length (deltas (take taken list))
+  pub short : length list ≤ most
+  pub plan : List Chunk
+  pub planned : Planned none 8 plan (map symbolOf list)
+  pub count : chunks ≡ length plan
+  pub takes : taken ≡ takenIn plan
+  pub stands : (i : ℕ) → i < 2 * length plan → getD out (8 + i) 0 ≡ getD (wordBytes (map chunkWord plan)) i 0
 
 -- ---- a block
+
+-- a list and a limit that the tests let through
+pub record Plannable (list : List ℤ) (limit : Option ℕ) : Type 0 where
+  pub short : length list ≤ most
+  pub eight : Within limit 8
 
 pub record Writable (time : ℕ) (list : List ℤ) (limit : Option ℕ) (out : List ℕ) : Type 0 where
   pub fits : time ≤ latest

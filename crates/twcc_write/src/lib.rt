@@ -2,23 +2,21 @@
 use kinds::RefTime;
 use kinds::Seq;
 use refusal::Refusal;
-use twcc_pick::Picked;
+use twcc_chunks::Limit;
 ghost use mathlib.Core.Path.{_≡_};
-ghost use mathlib.Core.List.{map};
 ghost use mathlib.Core.Bool.{cond};
-ghost use Prim.Native.Nat.{_+_, _≤_, _<_};
-ghost use lib.Dec.{ltb};
+ghost use Prim.Native.Nat.{_+_, _*_, _/_, _%_, _≤_, _<_, min};
+ghost use lib.Dec.{ltb, eqb};
 ghost use lib.IntN.{pos};
-ghost use lib.ListN.{length, getD, drop};
+ghost use lib.ListN.{length, getD, take, drop};
 ghost use lib.Seq.{sets};
 ghost use Rattle.twcc.specs.Time.{latest, timeBits};
-ghost use Rattle.twcc.specs.Words.{Valid, symbolOf, bits16};
-ghost use Rattle.twcc_plan.specs.Limits.{upFour, next};
-ghost use Rattle.twcc_plan.specs.Block.{inRange, firstBad, header, sizeOf};
-ghost use Rattle.twcc_write.specs.Limits.{limitOf, leastOf};
-ghost use Rattle.twcc_write.specs.Steps.{Slim, AtHand, shortStep, fitStep, stepOf};
-ghost use Rattle.twcc_write.specs.Plans.{Plannable, Plans};
-ghost use Rattle.twcc_write.specs.Stores.{Storable, Stored, DeltaStorable, DeltaStored, Writable, Filled};
+ghost use Rattle.twcc.specs.Words.{Valid, symbolOf, bits16, deltas};
+ghost use Rattle.twcc_plan.specs.Block.{header, sizeOf};
+ghost use Rattle.twcc_chunks.specs.Limits.{limitOf};
+ghost use Rattle.twcc_write.specs.Limits.{leastOf};
+ghost use Rattle.twcc_write.specs.Stores.{Plannable};
+ghost use Rattle.twcc_write.specs.Stores.{wordAt, DeltaStorable, DeltaStored, QuickStored, Storable, Reached, RunStorable, ChunkStorable, Deliverable, Writable, Filled};
 ghost use Rattle.twcc_write.specs.Promise.{Wrote};
 
 // The last reference time that 24 bits hold.
@@ -26,12 +24,6 @@ const LATEST: u32 = 16777215;
 
 // The most entries of a list.
 const MOST: usize = 16384;
-
-// The most bytes that a block may have.
-pub enum Limit {
-    Absent,
-    Bytes(usize),
-}
 
 // What a block used: its bytes, and the entries that it took.
 pub struct Used {
@@ -42,104 +34,6 @@ pub struct Used {
 pub enum Written {
     Block(Used),
     No(Refusal),
-}
-
-// A step of the plan: one chunk more, or the end.
-pub enum Step {
-    Take(Picked),
-    Stop,
-}
-
-// A plan's chunks, its bytes without padding, and the entries that it takes.
-pub struct Plan {
-    pub chunks: usize,
-    pub used: usize,
-    pub taken: usize,
-}
-
-fn up_four(n: usize) -> usize
-    requires { ⌜ n ≤ 1000000 ⌝ }
-    ensures { λ r. ⌜ r ≡ upFour n ⌝ }
-{
-    (n + 3) / 4 * 4
-}
-
-// What is left of a chunk that is so many bytes too long.
-fn shortened(over: usize, c: Picked) -> Step
-    requires { ⌜ (over ≤ 900000) × Slim c ⌝ }
-    ensures { λ r. ⌜ r ≡ shortStep over c ⌝ }
-{
-    let word = c.word;
-    let count = c.count;
-    if word < 8192 {
-        return Step::Stop;
-    }
-    if 32767 < word {
-        return Step::Stop;
-    }
-    let symbol = word / 8192;
-    let cut = up_four(over) / symbol;
-    if count <= cut {
-        return Step::Stop;
-    }
-    Step::Take(Picked {
-        word: symbol * 8192 + (count - cut),
-        count: count - cut,
-        width: symbol * (count - cut),
-    })
-}
-
-// What a limit leaves of a chunk where so many bytes are used.
-fn fitted(c: Picked, used: usize, limit: Limit) -> Step
-    requires { ⌜ (used ≤ 100000) × Slim c ⌝ }
-    ensures { λ r. ⌜ r ≡ fitStep (limitOf limit) used c ⌝ }
-{
-    let Limit::Bytes(most) = limit else {
-        return Step::Take(c);
-    };
-    let size = up_four(used + 2 + c.width);
-    if size <= most {
-        return Step::Take(c);
-    }
-    shortened(size - most, c)
-}
-
-// The next chunk of a block with so many bytes, before the entry at a place.
-fn next_chunk(list: &[i32], at: usize, used: usize, limit: Limit) -> Step
-    requires { ⌜ AtHand (now list) at used ⌝ }
-    ensures { λ r. ⌜ r ≡ stepOf (next (limitOf limit) used at (drop at (map symbolOf (now (list .entry))))) ⌝ }
-{
-    let rest = &list[at..];
-    fitted(twcc_pick::pick(rest), used, limit)
-}
-
-// Plans a block and stores its chunk words behind the header's place.
-fn plan_chunks(list: &[i32], limit: Limit, out: &mut [u8]) -> Plan
-    requires { ⌜ Plannable (now list) (limitOf limit) ⌝ }
-    ensures { λ r. ⌜ Plans (now (list .entry)) (limitOf limit) (now (out .entry)) r (now (out .exit)) ⌝ }
-{
-    let mut chunks: usize = 0;
-    let mut used: usize = 8;
-    let mut taken: usize = 0;
-    while taken < list.len() {
-        let step = next_chunk(list, taken, used, limit);
-        let Step::Take(c) = step else {
-            return Plan {
-                chunks,
-                used,
-                taken,
-            };
-        };
-        lent::put16(out, 8 + 2 * chunks, c.word as u16);
-        chunks = chunks + 1;
-        used = used + 2 + c.width;
-        taken = taken + c.count;
-    }
-    Plan {
-        chunks,
-        used,
-        taken,
-    }
 }
 
 // A delta's 16 bits.
@@ -176,18 +70,150 @@ fn put_delta(list: &[i32], n: usize, out: &mut [u8], at: usize) -> usize
     at + 2
 }
 
-// The delta bytes of a list's first entries; the place after them.
-fn put_deltas(list: &[i32], entries: usize, out: &mut [u8], at: usize) -> usize
-    requires { ⌜ Storable (now list) entries (now out) at ⌝ }
-    ensures { λ r. ⌜ Stored (now (list .entry)) entries (now (out .entry)) at r (now (out .exit)) ⌝ }
+// The first of a word's two bytes, if it has two; else the second.
+fn leading(symbol: usize, bits: usize) -> usize
+    ensures { λ r. ⌜ r ≡ cond (eqb symbol 2) (bits / 256) (bits % 256) ⌝ }
+{
+    if symbol == 2 { bits / 256 } else { bits % 256 }
+}
+
+// The same without a jump by symbol: two bytes are stored, and those that are too many are stored over by what follows, up
+// to a place `end`.
+fn put_quick(list: &[i32], n: usize, out: &mut [u8], at: usize, end: usize) -> usize
+    requires { ⌜ (DeltaStorable (now list) n (now out) at) × (end ≤ length (now out)) ⌝ }
+    ensures { λ r. ⌜ QuickStored (now (list .entry)) n (now (out .entry)) at end r (now (out .exit)) ⌝ }
+{
+    if end < at + 2 {
+        return put_delta(list, n, out, at);
+    }
+    let symbol = twcc_pick::symbol_at(list, n);
+    let bits = low_at(list, n);
+    out[at] = leading(symbol, bits) as u8;
+    out[at + 1] = (bits % 256) as u8;
+    at + symbol
+}
+
+// The delta bytes of the first entries, one by one; the place after them.
+fn put_each(rest: &[i32], entries: usize, out: &mut [u8], at: usize, end: usize) -> usize
+    requires { ⌜ (Storable (now rest) entries (now out) at) × (end ≤ length (now out)) ⌝ }
+    ensures { λ r. ⌜ Reached (now (rest .entry)) entries (now (out .entry)) at end r (now (out .exit)) ⌝ }
 {
     let mut p = at;
     let mut n: usize = 0;
     while n < entries {
-        p = put_delta(list, n, out, p);
+        p = put_quick(rest, n, out, p, end);
         n = n + 1;
     }
     p
+}
+
+// A small delta is its word.
+fn byte_at(list: &[i32], at: usize) -> u8
+    requires { ⌜ (at < length (now list)) × (symbolOf (wordAt (now list) at) ≡ 1) ⌝ }
+    ensures { λ r. ⌜ r ≡ bits16 (wordAt (now (list .entry)) at) ⌝ }
+{
+    let word = list[at];
+    word as u8
+}
+
+// The delta bytes of a run of small deltas.
+fn put_small(rest: &[i32], entries: usize, out: &mut [u8], at: usize)
+    requires { ⌜ RunStorable (now rest) 1 entries (now out) at ⌝ }
+    ensures { λ _. ⌜ now (out .exit) ≡ sets (now (out .entry)) at (deltas (take entries (now (rest .entry)))) ⌝ }
+{
+    let mut n: usize = 0;
+    while n < entries {
+        out[at + n] = byte_at(rest, n);
+        n = n + 1;
+    }
+}
+
+// The delta bytes of a run of large deltas.
+fn put_large(rest: &[i32], entries: usize, out: &mut [u8], at: usize)
+    requires { ⌜ RunStorable (now rest) 2 entries (now out) at ⌝ }
+    ensures { λ _. ⌜ now (out .exit) ≡ sets (now (out .entry)) at (deltas (take entries (now (rest .entry)))) ⌝ }
+{
+    let mut n: usize = 0;
+    while n < entries {
+        let bits = low_at(rest, n);
+        let p = at + 2 * n;
+        out[p] = (bits / 256) as u8;
+        out[p + 1] = (bits % 256) as u8;
+        n = n + 1;
+    }
+}
+
+// The delta bytes of a chunk's entries, as its word says of which kind they are; the place after them.
+fn put_chunk(
+    rest: &[i32],
+    word: usize,
+    entries: usize,
+    out: &mut [u8],
+    at: usize,
+    end: usize,
+) -> usize
+    requires { ⌜ (ChunkStorable (now rest) word entries (now out) at) × (end ≤ length (now out)) ⌝ }
+    ensures { λ r. ⌜ Reached (now (rest .entry)) entries (now (out .entry)) at end r (now (out .exit)) ⌝ }
+{
+    if word < 8192 {
+        return at;
+    }
+    if word < 16384 {
+        put_small(rest, entries, out, at);
+        return at + entries;
+    }
+    if word < 32768 {
+        put_large(rest, entries, out, at);
+        return at + 2 * entries;
+    }
+    put_each(rest, entries, out, at, end)
+}
+
+// The same of the entries from a place on.
+fn put_from(
+    list: &[i32],
+    from: usize,
+    word: usize,
+    entries: usize,
+    out: &mut [u8],
+    at: usize,
+    end: usize,
+) -> usize
+    requires { ⌜ (from ≤ length (now list)) × (ChunkStorable (drop from (now list)) word entries (now out) at) × (end ≤ length (now out)) ⌝ }
+    ensures { λ r. ⌜ Reached (drop from (now (list .entry))) entries (now (out .entry)) at end r (now (out .exit)) ⌝ }
+{
+    let rest = &list[from..];
+    put_chunk(rest, word, entries, out, at, end)
+}
+
+fn lesser(a: usize, b: usize) -> usize
+    ensures { λ r. ⌜ r ≡ min a b ⌝ }
+{
+    if a < b { a } else { b }
+}
+
+fn wide(x: u8) -> usize
+    ensures { λ r. ⌜ (r ≡ x) × (r < 256) ⌝ }
+{
+    x as usize
+}
+
+// The delta bytes of the entries taken, chunk by chunk, up to a place `end`: the words of the chunks stand behind the header's
+// place.
+fn put_deltas(list: &[i32], chunks: usize, taken: usize, out: &mut [u8], end: usize)
+    requires { ⌜ Deliverable (now list) chunks taken (now out) end ⌝ }
+    ensures { λ _. ⌜ now (out .exit) ≡ sets (now (out .entry)) (8 + 2 * chunks) (deltas (take taken (now (list .entry)))) ⌝ }
+{
+    let mut p = 8 + 2 * chunks;
+    let mut n: usize = 0;
+    let mut c: usize = 0;
+    while c < chunks {
+        let word = 256 * wide(out[8 + 2 * c]) + wide(out[9 + 2 * c]);
+        let entries = lesser(twcc_walk::size(word), taken - n);
+        p = put_from(list, n, word, entries, out, p, end);
+        n = n + entries;
+        c = c + 1;
+    }
 }
 
 // The 24 bits of a time.
@@ -226,43 +252,14 @@ fn put_block(
     requires { ⌜ Writable (time .0) (now list) (limitOf limit) (now out) ⌝ }
     ensures { λ r. ⌜ Filled (base .0) (time .0) feedback (now (list .entry)) (limitOf limit) (now (out .entry)) r (now (out .exit)) ⌝ }
 {
-    let p = plan_chunks(list, limit, out);
+    let p = twcc_chunks::plan_chunks(list, limit, out);
     let taken = p.taken;
-    let end = put_deltas(list, taken, out, 8 + 2 * p.chunks);
-    let bytes = up_four(p.used);
-    lent::zeros(out, end, bytes - end);
+    let used = p.used;
+    put_deltas(list, p.chunks, taken, out, used);
+    let bytes = p.bytes;
+    lent::zeros(out, used, bytes - used);
     put_header(base, taken, time, feedback, out);
     Used { bytes, taken }
-}
-
-fn in_range(word: i32) -> bool
-    ensures { λ r. ⌜ r ≡ inRange word ⌝ }
-{
-    if word < -32768 {
-        return false;
-    }
-    word <= 32768
-}
-
-fn fine_at(list: &[i32], at: usize) -> bool
-    requires { ⌜ at < length (now list) ⌝ }
-    ensures { λ r. ⌜ r ≡ inRange (getD (now (list .entry)) at (pos 0)) ⌝ }
-{
-    in_range(list[at])
-}
-
-// The first place of a word out of range, or the list's length.
-fn first_bad(list: &[i32]) -> usize
-    ensures { λ r. ⌜ r ≡ firstBad (now (list .entry)) ⌝ }
-{
-    let mut n: usize = 0;
-    while n < list.len() {
-        if !fine_at(list, n) {
-            return n;
-        }
-        n = n + 1;
-    }
-    n
 }
 
 // The limit, or 8, which no block lacks.
@@ -284,8 +281,8 @@ fn lacking(list: &[i32], limit: Limit, room: usize) -> usize
         return 0;
     }
     let mut nowhere = [0u8; 8];
-    let p = plan_chunks(list, limit, &mut nowhere);
-    let needed = up_four(p.used);
+    let p = twcc_chunks::plan_chunks(list, limit, &mut nowhere);
+    let needed = p.bytes;
     if room < needed {
         return needed;
     }
@@ -311,7 +308,7 @@ pub fn write(
     if MOST < list.len() {
         return Written::No(Refusal::ListLength(list.len()));
     }
-    let bad = first_bad(list);
+    let bad = twcc_pick::first_bad(list);
     if bad < list.len() {
         return Written::No(Refusal::Word(bad));
     }

@@ -1,19 +1,13 @@
 -- The room suffices for the largest block, or the plan tells the size.
-use mathlib.Core.Path.{_≡_, ap, _∙_}
+use borrow.Author.Needs.{needs}
 use native.Mathlib.Omega.{arith}
 use denote.Ref.{now}
-use Rattle.twcc_plan.specs.Limits.{upFour}
 use Rattle.twcc_plan.specs.Block.{sizeOf}
 use Rattle.twcc_plan.specs.BlockLaws.{size-small}
-use Rattle.twcc_write.specs.Limits.{limitOf}
-use Rattle.twcc_write.proofs.Joining.{enough, lacks}
-use borrow.Author.Needs.{needs}
+use Rattle.twcc_chunks.specs.Limits.{limitOf}
+use Rattle.twcc_write.proofs.Joining.{plan-size, enough, lacks}
 use Rattle.twcc_write.proofs.lacking.Statement.{statement}
 use Rattle.twcc_write.proofs.lacking.Tie as tie
-
--- the plan's size is the block's
-size : (c : tie.After-up-four) → c .up-four .result ≡ sizeOf (limitOf (c .before .before .before .before .before .args .limit)) (now (c .before .before .before .before .before .args .list))
-size c = c .up-four .ensures ∙ ap upFour (c .before .before .plan-chunks .ensures .used)
 
 mul-if1 : tie.Need-mul-if1
 mul-if1 c = search needs
@@ -32,16 +26,13 @@ slice-aggregate-plan-chunks c = search needs
 plan-chunks-requires : tie.Need-plan-chunks-requires
 plan-chunks-requires c κs = search needs
 
-up-four-requires : tie.Need-up-four-requires
-up-four-requires c κs = search needs
-
 returns-2 : tie.Need-returns-2
-returns-2 c = lacks _ _ _ (size (c .before)) (c .if2 .taken)
+returns-2 c = lacks _ _ _ (plan-size (c .before .before .before .before .before .pre .eight) (c .before .before .plan-chunks .ensures)) (c .if2 .taken)
 
 returns-3 : tie.Need-returns-3
 returns-3 c =
-    let s = c .before .before .before .before .before .before in
-    enough (s .args .room) (sizeOf (limitOf (s .args .limit)) (now (s .args .list))) (omega (arith, size (c .before), c .if2 .left))
+    let s = c .before .before .before .before .before in
+    enough (s .args .room) (sizeOf (limitOf (s .args .limit)) (now (s .args .list))) (omega (arith, plan-size (s .pre .eight) (c .before .before .plan-chunks .ensures), c .if2 .left))
 
 pub lacking-spec : {M : Type 1} → statement M
 lacking-spec =
@@ -52,6 +43,5 @@ lacking-spec =
     returns
     slice-aggregate-plan-chunks
     plan-chunks-requires
-    up-four-requires
     returns-2
     returns-3)

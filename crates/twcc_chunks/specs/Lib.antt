@@ -1,0 +1,4 @@
+pub mod Limits
+pub mod Steps
+pub mod Plans
+pub mod Unique

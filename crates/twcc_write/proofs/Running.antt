@@ -1,0 +1,72 @@
+-- The deltas of a run: every word has its symbol, so its bytes are known beforehand.
+use Prim.Native.Nat.{ℕ, _+_, _*_, _/_, _%_, _≤_, _<_}
+use mathlib.Core.Path.{_≡_, refl, sym, ap, _∙_}
+use mathlib.Core.List.{List, [], _∷_, map}
+use native.Mathlib.Omega.{arith}
+use lib.IntN.{ℤ, pos}
+use lib.ListN.{length, getD, take, set, replicate, length-set, getD-replicate}
+use lib.Seq.{getD-take}
+use Rattle.twcc.specs.Words.{symbolOf, bits16, deltas, widthOf}
+use Rattle.twcc.specs.Written.{length-deltas}
+use Rattle.twcc_plan.specs.PlanLaws.{width-run}
+use Rattle.twcc_plan.specs.BlockLaws.{take-symbols}
+use Rattle.twcc_pick.proofs.Symbols.{symbol-there}
+use Rattle.twcc_write.specs.Stores.{wordAt, DeltaStored, Stored, Reached, RunStorable, ChunkStorable}
+use Rattle.twcc_write.proofs.Spreading.{exact-reached}
+use Rattle.twcc_write.proofs.Delivering.{Delivering, delivering-turn, small-stored, large-stored}
+
+module _ {list : List ℤ} {symbol entries : ℕ} {out : List ℕ} {at : ℕ} (run : RunStorable list symbol entries out at) where
+  pub run-symbol : (n : ℕ) → n < entries → symbolOf (wordAt list n) ≡ symbol
+  run-symbol n more =
+      symbol-there list n (pos 0) (omega (arith, run .storable .inside)) ∙ sym (getD-take entries (map symbolOf list) n 0 more)
+      ∙ ap (λ (ss : List ℕ). getD ss n 0) (run .same) ∙ getD-replicate entries n symbol 0 more
+
+  pub run-width : symbol ≤ 2 → length (deltas (take entries list)) ≡ symbol * entries
+  run-width known =
+      length-deltas (take entries list) ∙ ap widthOf (sym (take-symbols entries list) ∙ run .same) ∙ width-run entries symbol (omega arith)
+
+  pub run-room : symbol ≤ 2 → at + symbol * entries ≤ length out
+  run-room known = omega (arith, run-width known, run .storable .room)
+
+moved : {list : List ℤ} {n : ℕ} {old : List ℕ} {at to to′ : ℕ} {new : List ℕ} → to ≡ to′ → DeltaStored list n old at to new → DeltaStored list n old at to′ new
+moved {to = to} {to′ = to′} place stored = record { next = sym place ∙ stored .next; bytes = stored .bytes }
+
+-- one more of a run of small deltas, and of large ones
+module _ {list : List ℤ} {entries : ℕ} {out₀ out : List ℕ} {at n bits : ℕ} (more : n < entries) (low : bits ≡ bits16 (wordAt list n)) where
+  pub small-turn : RunStorable list 1 entries out₀ at → Delivering list entries out₀ at out (at + n) n → Delivering list entries out₀ at (set out (at + n) bits) (at + (n + 1)) (n + 1)
+  small-turn run d =
+      delivering-turn d (run .storable) more _ _ (length-set out (at + n) bits)
+      (moved (omega arith) (small-stored list n out (at + n) _ (sym (run-symbol run n more)) bits low refl))
+
+  pub large-turn : RunStorable list 2 entries out₀ at → Delivering list entries out₀ at out (at + 2 * n) n
+      → Delivering list entries out₀ at (set (set out (at + 2 * n) (bits / 256)) (at + 2 * n + 1) (bits % 256)) (at + 2 * (n + 1)) (n + 1)
+  large-turn run d =
+      let p = at + 2 * n in
+      delivering-turn d (run .storable) more _ _ (length-set (set out p (bits / 256)) (p + 1) (bits % 256) ∙ length-set out p (bits / 256))
+      (moved (omega arith) (large-stored list n out p _ (sym (run-symbol run n more)) bits low (λ e. omega arith) (λ e. omega arith)))
+
+-- ---- a chunk's deltas, by what its word was tested for
+
+none-left : (xs : List ℕ) → length xs ≡ 0 → xs ≡ []
+none-left [] e = refl
+none-left (x ∷ xs) e = absurd (omega arith)
+
+module _ {list : List ℤ} {word entries : ℕ} {out : List ℕ} {at : ℕ} (chunk : ChunkStorable list word entries out at) where
+  pub chunk-run : (symbol : ℕ) → word < 32768 → word / 8192 ≡ symbol → RunStorable list symbol entries out at
+  chunk-run symbol is-run is =
+      record { storable = chunk .storable; same = chunk .run is-run .1 ∙ ap (λ (s : ℕ). replicate entries s) is }
+
+  pub lost-stored : (end : ℕ) → word < 8192 → Reached list entries out at end at out
+  lost-stored end lost =
+      let none = run-width (chunk-run 0 (omega arith) (omega arith)) (omega arith) in
+      let bytes = none-left (deltas (take entries list)) (omega (arith, none)) in
+      exact-reached (omega (arith, none)) (rw bytes)
+
+  pub small-reached : (end : ℕ) {new : List ℕ} → 8192 ≤ word → word < 16384 → Stored list entries out at new → Reached list entries out at end (at + entries) new
+  small-reached end low high = exact-reached (omega (arith, run-width (chunk-run 1 (omega arith) (omega arith)) (omega arith)))
+
+  pub large-symbol : 16384 ≤ word → word < 32768 → word / 8192 ≡ 2
+  large-symbol low high = omega (arith, chunk .run high .0)
+
+  pub large-reached : (end : ℕ) {new : List ℕ} → 16384 ≤ word → word < 32768 → Stored list entries out at new → Reached list entries out at end (at + 2 * entries) new
+  large-reached end low high = exact-reached (omega (arith, run-width (chunk-run 2 high (large-symbol low high)) (omega arith)))
