@@ -23,7 +23,7 @@ use Rattle.twcc_read.specs.declared.Listed.{Listed}
 use Rattle.twcc_read.specs.declared.Reading.{Reading}
 use Rattle.twcc_read.specs.declared.Reading.the-variants as reading
 use Rattle.twcc_write.specs.Promise.{Wrote}
-use Rattle.twcc_write.specs.Laws.{usedFor, block-there, block-answered}
+use Rattle.twcc_cut.specs.Answers.{usedFor, block-there, block-answered}
 use Rattle.twcc_write.specs.declared.Used.{Used}
 use Rattle.twcc_write.specs.declared.Written.{Written}
 use Rattle.twcc_write.specs.declared.Written.the-variants as written
@@ -96,9 +96,9 @@ calls-cut {base} {list} (one-more {calls = calls} c there wrote reads later) =
     let rest = subst (λ (n : ℕ). Cut ((base + n) % 65536) (drop n list) (map partFrom calls)) (sym taken) (calls-cut later) in
     subst (λ (p : Part). Cut base list (p ∷ map partFrom calls)) part (cut.one-more (c .choice) there rest)
 
-calls-valid : {base : ℕ} {list : List ℤ} {calls : List Call} → Calls base list calls → AllValid list
-calls-valid nothing-left = tt
-calls-valid (one-more c there wrote reads later) = block-there (c .used) wrote .passed .valid
+calls-passed : {base : ℕ} {list : List ℤ} {calls : List Call} → Calls base list calls → AllValid list × (length list ≤ most)
+calls-passed nothing-left = (tt, omega arith)
+calls-passed (one-more c there wrote reads later) = let passed = block-there (c .used) wrote .passed in (passed .valid, passed .short)
 
 -- and the reader gives what they read as
 calls-given : {base : ℕ} {list : List ℤ} {calls : List Call} → Calls base list calls → given calls ≡ back (map partFrom calls)
@@ -114,9 +114,10 @@ pub record CallsWhole (base : ℕ) (list : List ℤ) (calls : List Call) : Type 
   pub read-back : given calls ≡ numbered base 0 list
 
 -- whatever limits were chosen, each call took an entry and kept within its limit, and all of them read give the list
-pub calls-whole : (base : ℕ) (list : List ℤ) (calls : List Call) → Calls base list calls → AllFit (map partFrom calls) → CallsWhole base list calls
-calls-whole base list calls made fit =
-    let whole = cut-whole base list (map partFrom calls) (calls-cut made) (calls-valid made) fit in
+pub calls-whole : (base : ℕ) (list : List ℤ) (calls : List Call) → Calls base list calls → base < 65536 → AllFit (map partFrom calls) → CallsWhole base list calls
+calls-whole base list calls made small fit =
+    let passed = calls-passed made in
+    let whole = cut-whole base list (map partFrom calls) (calls-cut made) small (passed .1) (passed .0) fit in
     record { each = whole .each; read-back = calls-given made ∙ whole .read-back }
 
 reading-is : (r : Reading) (said : Listed) → saidReading r ≡ gave said → r ≡ reading.Block said

@@ -10,10 +10,11 @@ use lib.IntN.{ℤ}
 use lib.ListN.{length, take, drop, length-take, length-drop, take-append-drop}
 use Rattle.twcc.specs.Time.{latest}
 use Rattle.twcc.specs.Words.{AllValid}
+use Rattle.twcc.specs.Chunks.{Below}
 use Rattle.twcc.specs.Block.{baseOf, referenceTime, feedbackCount, listed}
-use Rattle.twcc_plan.specs.Block.{takenOf, blockBytes}
+use Rattle.twcc_plan.specs.Block.{most, takenOf, blockBytes}
 use Rattle.twcc_plan.specs.PlanLaws.{Within, Wide, wide-eight}
-use Rattle.twcc_plan.specs.BlockLaws.{valid-drop, taken-fits, block-takes, block-within, block-base, block-time, block-feedback, block-list}
+use Rattle.twcc_plan.specs.BlockLaws.{valid-drop, taken-fits, block-takes, block-within, block-base, block-time, block-feedback, block-list, block-bytes}
 use Rattle.twcc_cut.specs.Numbered.{Numbered, numbered, numbered-append, numbered-moved}
 
 -- ---- the procedure
@@ -24,9 +25,9 @@ pub record Choice : Type 0 where
   pub time : ℕ
   pub feedback : ℕ
 
--- a limit absent or at least 24, and a time that fits
+-- a limit absent or at least 24, a time that fits, and a feedback count of one byte
 abbrev pub Fits : Choice → Type 0
-Fits c = Wide (c .limit) × (c .time ≤ latest)
+Fits c = Wide (c .limit) × (c .time ≤ latest) × (c .feedback < 256)
 
 -- a block, what it was written with, and the entries that it took
 pub record Part : Type 0 where
@@ -55,6 +56,7 @@ AllFit (p ∷ parts) = Fits (p .choice) × AllFit parts
 -- one block against what it was written with
 pub record Kept (p : Part) : Type 0 where
   pub some-taken : zero < p .taken
+  pub are-bytes : Below 256 (p .block)
   pub within : Within (p .choice .limit) (length (p .block))
   pub time-back : referenceTime (p .block) ≡ p .choice .time
   pub feedback-back : feedbackCount (p .block) ≡ p .choice .feedback
@@ -74,18 +76,21 @@ pub record Whole (base : ℕ) (list : List ℤ) (parts : List Part) : Type 0 whe
 
 -- ---- that it is so
 
-pub cut-whole : (base : ℕ) (list : List ℤ) (parts : List Part) → Cut base list parts → AllValid list → AllFit parts → Whole base list parts
+-- whatever blocks the procedure gives take an entry each, keep within their limits, and read as the list
+pub cut-whole : (base : ℕ) (list : List ℤ) (parts : List Part) → Cut base list parts → base < 65536 → length list ≤ most → AllValid list → AllFit parts
+    → Whole base list parts
 unfolding back numbered
-cut-whole base list parts nothing-left valid fit = record { each = tt; read-back = refl }
-cut-whole base list parts (one-more {parts = later} c there cut) valid fit =
+cut-whole base list parts nothing-left small short valid fit = record { each = tt; read-back = refl }
+cut-whole base list parts (one-more {parts = later} c there cut) small short valid fit =
     let n = takenOf (c .limit) list in
     let eight = wide-eight (c .limit) (fit .0 .0) in
-    let rest = cut-whole ((base + n) % 65536) (drop n list) later cut (valid-drop n list valid) (fit .1) in
+    let rest = cut-whole ((base + n) % 65536) (drop n list) later cut (omega arith) (omega (arith, length-drop n list)) (valid-drop n list valid) (fit .1) in
     let place : n ≡ 0 + length (take n list) = omega (arith, length-take n list, taken-fits (c .limit) list eight) in
     record {
       each = (
         record {
           some-taken = block-takes (c .limit) list (fit .0 .0) there;
+          are-bytes = block-bytes (c .limit) list eight base (c .time) (c .feedback) valid short small (fit .0 .1) (fit .0 .2);
           within = block-within (c .limit) list eight base (c .time) (c .feedback);
           time-back = block-time (c .limit) list eight base (c .time) (c .feedback) (fit .0 .1);
           feedback-back = block-feedback (c .limit) list eight base (c .time) (c .feedback);
@@ -109,23 +114,23 @@ abbrev pub Follows : Way → List Part → List Part → Type 0
 Follows way before [] = Unit {0}
 Follows way before (p ∷ parts) = (p .choice ≡ way before) × Follows way (p ∷ before) parts
 
-ends : (most : ℕ) (way : Way) → ((before : List Part) → Fits (way before)) → (before : List Part) (base : ℕ) (list : List ℤ) → length list ≤ most
+ends : (fuel : ℕ) (way : Way) → ((before : List Part) → Fits (way before)) → (before : List Part) (base : ℕ) (list : List ℤ) → length list ≤ fuel
     → (parts : List Part) × Cut base list parts × Follows way before parts × AllFit parts
 ends zero way fits before base [] few = ([], nothing-left, tt, tt)
 ends zero way fits before base (w ∷ list) few = absurd (omega arith)
-ends (suc most) way fits before base [] few = ([], nothing-left, tt, tt)
-ends (suc most) way fits before base (w ∷ list) few =
+ends (suc fuel) way fits before base [] few = ([], nothing-left, tt, tt)
+ends (suc fuel) way fits before base (w ∷ list) few =
     let c = way before in
     let n = takenOf (c .limit) (w ∷ list) in
     let p = partOf c base (w ∷ list) in
-    let fewer : length (drop n (w ∷ list)) ≤ most = omega (arith, length-drop n (w ∷ list), block-takes (c .limit) (w ∷ list) (fits before .0) (omega arith)) in
-    let rest = ends most way fits (p ∷ before) ((base + n) % 65536) (drop n (w ∷ list)) fewer in
+    let fewer : length (drop n (w ∷ list)) ≤ fuel = omega (arith, length-drop n (w ∷ list), block-takes (c .limit) (w ∷ list) (fits before .0) (omega arith)) in
+    let rest = ends fuel way fits (p ∷ before) ((base + n) % 65536) (drop n (w ∷ list)) fewer in
     (p ∷ rest .0, one-more {list = w ∷ list} c (omega arith) (rest .1), (refl, rest .2), (fits before, rest .3))
 
 -- Every list of words that can be written, cut in whatever way, ends in blocks that read as the list: without an error,
 -- entry for entry, the entry at place k numbered base plus k.
-pub cut-ends : (way : Way) → ((before : List Part) → Fits (way before)) → (base : ℕ) (list : List ℤ) → AllValid list
+pub cut-ends : (way : Way) → ((before : List Part) → Fits (way before)) → (base : ℕ) (list : List ℤ) → base < 65536 → length list ≤ most → AllValid list
     → (parts : List Part) × Cut base list parts × Follows way [] parts × Whole base list parts
-cut-ends way fits base list valid =
+cut-ends way fits base list small short valid =
     let cut = ends (length list) way fits [] base list (omega arith) in
-    (cut .0, cut .1, cut .2, cut-whole base list (cut .0) (cut .1) valid (cut .3))
+    (cut .0, cut .1, cut .2, cut-whole base list (cut .0) (cut .1) small short valid (cut .3))

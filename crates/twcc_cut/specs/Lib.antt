@@ -1,3 +1,4 @@
 pub mod Numbered
 pub mod Cut
+pub mod Answers
 pub mod Calls

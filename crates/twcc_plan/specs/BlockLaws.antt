@@ -7,19 +7,21 @@ use mathlib.Core.Option.{Option}
 use mathlib.Core.Bool.{true}
 use native.Mathlib.Omega.{arith}
 use borrow.Author.Tests.{leb-true, ltb-true, le-leb, lt-ltb}
+use lib.Dec.{ltb}
 use lib.IntN.{ℤ, pos, negsuc}
 use lib.ListN.{length, take, drop, length-append, length-map}
 use Rattle.lent.specs.Bytes.{zeroBytes}
 use Rattle.lent.specs.Laws.{length-zeroBytes}
 use Rattle.twcc.specs.Time.{latest, timeOf, timeBits, time-back, time-bits}
-use Rattle.twcc.specs.Words.{Valid, AllValid, symbolOf, deltas, widthOf}
-use Rattle.twcc.specs.Chunks.{chunkWord}
+use Rattle.twcc.specs.Words.{Valid, AllValid, symbolOf, bits16, bytesFor, deltaBytes, deltas, widthOf}
+use Rattle.twcc.specs.Chunks.{Below, Chunk, chunkWord}
 use Rattle.twcc.specs.Block.{be24, baseOf, statusCount, referenceTime, feedbackCount, blockSymbols, blockDeltas, listed}
 use Rattle.twcc.specs.Written.{by-test, symbols-lt, length-deltas, entries-back, wordBytes, symbols-back, after-back}
 use Rattle.twcc_plan.specs.Front.{front}
+use Rattle.twcc_plan.specs.Choice.{takenBy, widthBy}
 use Rattle.twcc_plan.specs.Plan.{usedBy}
-use Rattle.twcc_plan.specs.Block.{inRange, firstBad, header, chunksOf, takenOf, body, usedOf, sizeOf, blockBytes}
-use Rattle.twcc_plan.specs.PlanLaws.{Within, Wide, Planned, plan-planned, planned-reads, planned-used, planned-small, planned-within, plan-takes}
+use Rattle.twcc_plan.specs.Block.{most, inRange, firstBad, header, chunksOf, takenOf, body, usedOf, sizeOf, blockBytes}
+use Rattle.twcc_plan.specs.PlanLaws.{Within, Wide, Planned, word-lt, below-drop, plan-planned, planned-reads, planned-used, planned-small, planned-within, plan-takes}
 
 -- ---- lists of words
 
@@ -66,6 +68,37 @@ pub length-words : (ws : List ℕ) → length (wordBytes ws) ≡ 2 * length ws
 unfolding wordBytes
 length-words [] = refl
 length-words (w ∷ ws) = omega (arith, length-words ws)
+
+-- ---- that what is written are bytes
+
+pub below-append : (b : ℕ) (xs ys : List ℕ) → Below b xs → Below b ys → Below b (xs ++ ys)
+below-append b [] ys first second = second
+below-append b (x ∷ xs) ys first second = (first .0, below-append b xs ys (first .1) second)
+
+zeros-bytes : (n : ℕ) → Below 256 (zeroBytes n)
+unfolding zeroBytes
+zeros-bytes zero = tt
+zeros-bytes (suc n) = (omega arith, zeros-bytes n)
+
+delta-bytes : (w : ℤ) → Valid w → Below 256 (deltaBytes w)
+unfolding deltaBytes symbolOf bytesFor bits16
+delta-bytes (pos n) valid =
+    by-test (ltb n 256)
+    (λ e. rw e (ltb-true n 256 e, tt))
+    (λ e. rw e (by-test (ltb n 32768) (λ f. rw f (omega arith, (omega arith, tt))) (λ f. rw f tt)))
+delta-bytes (negsuc n) valid = (omega arith, (omega arith, tt))
+
+deltas-bytes : (list : List ℤ) → AllValid list → Below 256 (deltas list)
+unfolding deltas
+deltas-bytes [] valid = tt
+deltas-bytes (w ∷ list) valid = below-append 256 (deltaBytes w) (deltas list) (delta-bytes w (valid .0)) (deltas-bytes list (valid .1))
+
+words-bytes : (limit : Option ℕ) (used : ℕ) (cs : List Chunk) (ss : List ℕ) → Below 3 ss → Planned limit used cs ss → Below 256 (wordBytes (map chunkWord cs))
+unfolding wordBytes
+words-bytes limit used [] ss below planned = tt
+words-bytes limit used (c ∷ cs) ss below planned =
+    let few = word-lt ss c below (planned .0) in
+    (omega arith, (omega arith, words-bytes limit (used + 2 + widthBy c) cs (drop (takenBy c) ss) (below-drop 3 (takenBy c) ss below) (planned .1)))
 
 -- ---- one block
 
@@ -156,3 +189,17 @@ module _ (limit : Option ℕ) (list : List ℤ) (eight : Within limit 8) where
     block-list valid =
         let n = takenOf limit list in
         rw (block-symbols, block-deltas) (entries-back (take n list) (zeroBytes (sizeOf limit list - usedOf limit list)) (valid-take n list valid))
+
+    pub block-bytes : AllValid list → length list ≤ most → base < 65536 → time ≤ latest → feedback < 256 → Below 256 block
+    unfolding blockBytes header body
+    block-bytes valid short small fits low =
+        let n = takenOf limit list in
+        let few = taken-fits in
+        let bits = time-bits time fits in
+        let words = words-bytes limit 8 (chunksOf limit list) (map symbolOf list) (symbols-lt list) block-planned in
+        let own = deltas-bytes (take n list) (valid-take n list valid) in
+        let pad = zeros-bytes (sizeOf limit list - usedOf limit list) in
+        let first : Below 256 (header base n time feedback) = omega arith in
+        below-append 256 (header base n time feedback) (body limit list ++ zeroBytes (sizeOf limit list - usedOf limit list)) first
+        (below-append 256 (body limit list) (zeroBytes (sizeOf limit list - usedOf limit list))
+        (below-append 256 (wordBytes (map chunkWord (chunksOf limit list))) (deltas (take n list)) words own) pad)

@@ -11,8 +11,7 @@ use lib.Seq.{sets, drop-cons}
 use Rattle.lent.specs.Laws.{sets-append}
 use Rattle.twcc.specs.Words.{symbolOf, bits16, bytesFor, deltaBytes, deltas}
 use Rattle.twcc.specs.Written.{symbol-lt, length-delta}
-use Rattle.twcc_write.specs.Stores.{wordAt, DeltaStorable, DeltaStored, Storable, Stored}
-use Rattle.twcc_write.proofs.Words.{valid-at}
+use Rattle.twcc_write.specs.Stores.{wordAt, DeltaStored, Storable, Stored}
 
 -- ---- one delta, by its symbol
 
@@ -65,14 +64,6 @@ module _ {list : List ℤ} {entries : ℕ} {out₀ out : List ℕ} {at p n : ℕ
     size =
         ap length opened ∙ length-append (deltaBytes (wordAt list n)) (deltas (take (entries - suc n) (drop (suc n) list)))
         ∙ ap (λ (k : ℕ). k + length (deltas (take (entries - suc n) (drop (suc n) list)))) (length-delta (wordAt list n))
-
-    pub delta-storable : DeltaStorable list n out p
-    delta-storable =
-        record {
-          inside = inside;
-          valid = valid-at list n (pos 0) (storable .valid) inside;
-          room = omega (arith, size, d .place, d .same, storable .room);
-        }
 
     pub delivering-turn : (p′ : ℕ) (new : List ℕ) → length new ≡ length out → DeltaStored list n out p p′ new → Delivering list entries out₀ at new p′ (n + 1)
     delivering-turn p′ new kept stored =

@@ -2,10 +2,10 @@
 use Prim.Native.Nat.{ℕ, suc, _+_, _*_, _-_, _≤_, _<_}
 use mathlib.Core.Path.{_≡_, refl, sym, ap, _∙_}
 use mathlib.Core.List.{List, [], _∷_, _++_, map}
-use mathlib.Core.Option.{Option}
-use mathlib.Core.Bool.{cond}
+use mathlib.Core.Option.{Option, none, some}
+use mathlib.Core.Bool.{cond, true, false≢true}
 use native.Mathlib.Omega.{arith}
-use borrow.Author.Tests.{ltb-true, ltb-false, lt-ltb, le-ltb}
+use borrow.Author.Tests.{leb-true, ltb-true, ltb-false, lt-ltb, le-ltb}
 use lib.Dec.{ltb}
 use lib.IntN.{ℤ}
 use lib.ListN.{length, take, set, length-append, length-map}
@@ -20,6 +20,7 @@ use Rattle.twcc_plan.specs.Block.{header, chunksOf, takenOf, body, usedOf, size
 use Rattle.twcc_plan.specs.BlockLaws.{length-words, block-planned, used-is}
 use Rattle.twcc_plan.specs.PlanLaws.{Within, planned-free}
 use Rattle.twcc_chunks.specs.Plans.{Plans}
+use Rattle.twcc_write.specs.Limits.{limitWithin}
 use Rattle.twcc_write.specs.Stores.{Storable, Stored, Deliverable, Writable, Filled}
 use Rattle.twcc_chunks.specs.declared.Plan.{Plan}
 use Rattle.twcc_write.proofs.Bytes.{getD-stored}
@@ -104,6 +105,10 @@ module _ {time : ℕ} {list : List ℤ} {limit : Option ℕ} {l₀ l₁ : List �
 pub plan-size : {list : List ℤ} {limit : Option ℕ} {old new : List ℕ} {p : Plan} → Within limit 8 → Plans list limit old p new → p .bytes ≡ sizeOf limit list
 plan-size {list} {limit} eight plans = plans .bytes ∙ ap upFour (plans .used ∙ sym (used-is limit list eight))
 
+pub limit-enough : (limit : Option ℕ) (room size : ℕ) → Within limit size → limitWithin limit room ≡ true → size ≤ room
+limit-enough none room size within fits = absurd (false≢true fits)
+limit-enough (some limit) room size within fits = omega (arith, within, leb-true limit room fits)
+
 module _ (room size : ℕ) where
   pub enough : size ≤ room → 0 ≡ cond (ltb room size) size 0
   enough fits = rw (le-ltb room size fits)
@@ -113,13 +118,13 @@ module _ (room size : ℕ) where
 
   -- what the code learns of it
   pub lacked : (needed : ℕ) → needed ≡ cond (ltb room size) size 0 → 0 < needed → (needed ≡ size) × (room < size)
-  lacked needed is some =
+  lacked needed is there =
       by-test (ltb room size)
       (λ e. (rw e at is, ltb-true room size e))
-      (λ e. let none : needed ≡ 0 = rw e at is in absurd (omega arith))
+      (λ e. let nothing : needed ≡ 0 = rw e at is in absurd (omega arith))
 
   pub suffices : (needed : ℕ) → needed ≡ cond (ltb room size) size 0 → needed ≤ 0 → 0 < size → size ≤ room
-  suffices needed is none some =
+  suffices needed is nothing there =
       by-test (ltb room size)
       (λ e. let all : needed ≡ size = rw e at is in absurd (omega arith))
       (λ e. ltb-false room size e)

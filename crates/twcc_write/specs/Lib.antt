@@ -1,5 +1,4 @@
 pub mod Limits
 pub mod Stores
 pub mod Promise
-pub mod Laws
 pub mod Unique

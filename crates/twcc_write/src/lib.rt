@@ -14,9 +14,8 @@ ghost use Rattle.twcc.specs.Time.{latest, timeBits};
 ghost use Rattle.twcc.specs.Words.{Valid, symbolOf, bits16, deltas};
 ghost use Rattle.twcc_plan.specs.Block.{header, sizeOf};
 ghost use Rattle.twcc_chunks.specs.Limits.{limitOf};
-ghost use Rattle.twcc_write.specs.Limits.{leastOf};
-ghost use Rattle.twcc_write.specs.Stores.{Plannable};
-ghost use Rattle.twcc_write.specs.Stores.{wordAt, DeltaStorable, DeltaStored, QuickStored, Storable, Reached, RunStorable, ChunkStorable, Deliverable, Writable, Filled};
+ghost use Rattle.twcc_write.specs.Limits.{leastOf, limitWithin};
+ghost use Rattle.twcc_write.specs.Stores.{wordAt, DeltaStorable, DeltaStored, QuickStored, Storable, Reached, RunStorable, ChunkStorable, Deliverable, Plannable, Writable, Filled};
 ghost use Rattle.twcc_write.specs.Promise.{Wrote};
 
 // The last reference time that 24 bits hold.
@@ -51,6 +50,13 @@ fn low_at(list: &[i32], at: usize) -> usize
     low(list[at])
 }
 
+// The first of a word's two bytes, if it has two; else the second.
+fn leading(symbol: usize, bits: usize) -> usize
+    ensures { λ r. ⌜ r ≡ cond (eqb symbol 2) (bits / 256) (bits % 256) ⌝ }
+{
+    if symbol == 2 { bits / 256 } else { bits % 256 }
+}
+
 // The delta bytes of the word at a place; the place after them.
 fn put_delta(list: &[i32], n: usize, out: &mut [u8], at: usize) -> usize
     requires { ⌜ DeltaStorable (now list) n (now out) at ⌝ }
@@ -68,13 +74,6 @@ fn put_delta(list: &[i32], n: usize, out: &mut [u8], at: usize) -> usize
     out[at] = (bits / 256) as u8;
     out[at + 1] = (bits % 256) as u8;
     at + 2
-}
-
-// The first of a word's two bytes, if it has two; else the second.
-fn leading(symbol: usize, bits: usize) -> usize
-    ensures { λ r. ⌜ r ≡ cond (eqb symbol 2) (bits / 256) (bits % 256) ⌝ }
-{
-    if symbol == 2 { bits / 256 } else { bits % 256 }
 }
 
 // The same without a jump by symbol: two bytes are stored, and those that are too many are stored over by what follows, up
@@ -272,11 +271,25 @@ fn least(limit: Limit) -> usize
     }
 }
 
-// The bytes that a block needs where the room lacks, 0 where it suffices.
+// Whether a limit keeps every block within the room.
+fn limited(limit: Limit, room: usize) -> bool
+    ensures { λ r. ⌜ r ≡ limitWithin (limitOf limit) room ⌝ }
+{
+    match limit {
+        Limit::Absent => false,
+        Limit::Bytes(most) => most <= room,
+    }
+}
+
+// The bytes that a block needs where the room lacks, 0 where it suffices. Where neither the limit nor the list's length
+// settles it, a plan does, with a buffer that is too short for its words.
 fn lacking(list: &[i32], limit: Limit, room: usize) -> usize
     requires { ⌜ Plannable (now list) (limitOf limit) ⌝ }
     ensures { λ r. ⌜ r ≡ cond (ltb room (sizeOf (limitOf limit) (now (list .entry)))) (sizeOf (limitOf limit) (now (list .entry))) 0 ⌝ }
 {
+    if limited(limit, room) {
+        return 0;
+    }
     if 8 + 4 * list.len() <= room {
         return 0;
     }

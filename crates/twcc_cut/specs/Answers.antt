@@ -2,7 +2,7 @@
 use Prim.Native.Nat.{ℕ, _≤_}
 use mathlib.Core.Path.{_≡_, refl, sym, ap, _∙_}
 use mathlib.Core.List.{List, [], _∷_}
-use mathlib.Core.Option.{Option, none, some}
+use mathlib.Core.Option.{Option}
 use mathlib.Core.Bool.{Bool, true, false, cond}
 use native.Mathlib.Omega.{arith}
 use borrow.Author.Tests.{ltb-false, le-ltb}
@@ -17,20 +17,11 @@ use Rattle.twcc.specs.Words.{AllValid}
 use Rattle.twcc_plan.specs.Block.{most, firstBad, takenOf, sizeOf, blockBytes}
 use Rattle.twcc_plan.specs.PlanLaws.{Within}
 use Rattle.twcc_plan.specs.BlockLaws.{none-bad, valid-fine, block-length}
-use Rattle.twcc_write.specs.Limits.{leastOf}
+use Rattle.twcc_write.specs.Limits.{leastOf, eight-within, within-eight}
 use Rattle.twcc_write.specs.Promise.{written, Wrote}
 use Rattle.twcc_write.specs.declared.Used.{Used}
 use Rattle.twcc_write.specs.declared.Written.{Written}
 use Rattle.twcc_write.specs.declared.Written.the-variants.{Block, No}
-
--- a limit that no test refuses
-pub eight-within : (limit : Option ℕ) → 8 ≤ leastOf limit → Within limit 8
-eight-within none eight = tt
-eight-within (some limit) eight = eight
-
-within-eight : (limit : Option ℕ) → Within limit 8 → 8 ≤ leastOf limit
-within-eight none eight = omega arith
-within-eight (some limit) eight = eight
 
 abbrev pub usedFor : List ℤ → Option ℕ → Used
 usedFor list limit = record { bytes = sizeOf limit list; taken = takenOf limit list }
