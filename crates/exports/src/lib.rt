@@ -14,7 +14,6 @@ use utils::Padded;
 ghost use mathlib.Core.Path.{_≡_};
 ghost use Rattle.refusal.specs.Number.{no};
 ghost use Rattle.refusal.specs.Said.{saidChecked, saidNumber};
-ghost use Rattle.refusal.specs.Told.{bits64};
 ghost use Rattle.utils.specs.Header.{versionOf, paddingBitOf, countOf, typeOf, lengthOf};
 ghost use Rattle.utils.specs.Check.{field, paddingByte, checkPacket};
 ghost use Rattle.compound.specs.Unknown.{unknown};
@@ -219,18 +218,6 @@ pub extern "C" fn bog_twcc_read(block: &[u8], list: &mut [i32]) -> Said
     }
 }
 
-// A signed number in two's complement.
-fn bits(t: i64) -> u64
-    ensures { λ r. ⌜ r ≡ bits64 t ⌝ }
-{
-    if t < 0 {
-        let k = (-1 - t) as u64;
-        18446744073709551615 - k
-    } else {
-        t as u64
-    }
-}
-
 #[no_mangle]
 pub extern "C" fn bog_arrival(time: u32, delta: i16) -> Said
     ensures { λ s. ⌜ s ≡ saidOf (signed (arrivalOf time delta)) ⌝ }
@@ -238,7 +225,7 @@ pub extern "C" fn bog_arrival(time: u32, delta: i16) -> Said
     match arrival::arrival(RefTime(time), delta) {
         Arrived::At(tick) => Said {
             number: 0,
-            values: [bits(tick.0), 0, 0, 0, 0],
+            values: [arrival::bits(tick), 0, 0, 0, 0],
         },
         Arrived::No(r) => refused(r),
     }

@@ -1,9 +1,7 @@
--- By the cases of the answer; a signed number is handed on bit by bit.
+-- By the cases of the answer.
 use mathlib.Core.Path.{_≡_, sym, ap, _∙_}
-use mir.Syntax.{w16, w64}
-use mir.Val.{toZ, ofZ}
+use mir.Syntax.{w16}
 use mir.ValLaws.{toZ-ofZ}
-use Rattle.refusal.specs.Told.{bits64}
 use Rattle.arrival.specs.Arrival.{saidArrived, arrivalOf}
 use Rattle.exports.specs.Says.{saidOf, signed}
 use borrow.Author.Needs.{needs}
@@ -30,10 +28,7 @@ refused-requires c κs = search needs
 
 returns : tie.Need-returns
 unfolding saidOf signed
-returns c =
-    let tick = c .before .before .before .tick .given .0 .0 .0 in
-    let whole : bits64 (toZ w64 (ofZ w64 tick)) ≡ bits64 tick = ap bits64 (toZ-ofZ w64 tick (record { sfits = c .before .struct-told .given .0 .1 })) in
-    rw (sym (comes (c .before .before .before .before .before)) ∙ ap saidArrived (c .before .before .before .tick .given .1), c .bits .ensures, whole)
+returns c = rw (sym (comes (c .before .before .before .before)) ∙ ap saidArrived (c .before .before .tick .given .1), c .bits .ensures)
 
 returns-2 : tie.Need-returns-2
 unfolding signed

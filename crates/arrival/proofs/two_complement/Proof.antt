@@ -4,9 +4,9 @@ use mathlib.Core.Path.{sym, ap, _∙_}
 use native.Mathlib.Omega.{arith}
 use lib.IntN.{ℤ, natAbs}
 use Rattle.refusal.specs.Told.{bits64}
-use Rattle.exports.proofs.Sign.{Minus, Plus, minus-of, plus-of}
-use Rattle.exports.proofs.bits.Statement.{statement}
-use Rattle.exports.proofs.bits.Tie as tie
+use Rattle.arrival.proofs.Sign.{Minus, Plus, minus-of, plus-of}
+use Rattle.arrival.proofs.two_complement.Statement.{statement}
+use Rattle.arrival.proofs.two_complement.Tie as tie
 
 below : (c : tie.Then1) → Minus (c .before .args .t)
 below c = minus-of _ (c .before .fits .t) (c .if1 .taken)
@@ -32,5 +32,5 @@ returns c = ap (λ (z : ℤ). 18446744073709551615 - natAbs z) (below c .read) �
 returns-2 : tie.Need-returns-2
 returns-2 c = ap natAbs (above c .read) ∙ sym (ap bits64 (above c .is))
 
-pub bits-spec : {M : Type 1} → statement M
-bits-spec = tie.close (tie.spec sub-k cast-k sub-result cast-result returns returns-2)
+pub two-complement-spec : {M : Type 1} → statement M
+two-complement-spec = tie.close (tie.spec sub-k cast-k sub-result cast-result returns returns-2)

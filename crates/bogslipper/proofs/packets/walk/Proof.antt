@@ -1,0 +1,83 @@
+-- Each packet found lies behind the one before.
+use Prim.Native.Nat.{_≤_, _-_}
+use mathlib.Core.Path.{sym, ap, _∙_}
+use native.Mathlib.Omega.{arith}
+use lib.ListN.{length}
+use borrow.Author.Needs.{needs}
+use Rattle.compound.specs.Walk.{step}
+use Rattle.compound.specs.Said.{saidFound}
+use Rattle.compound.specs.declared.Found.{Found}
+use Rattle.compound.specs.Laws.{Turned, walk-packet}
+use Rattle.bogslipper.proofs.packets.walk.Statement.{statement}
+use Rattle.bogslipper.proofs.packets.walk.Tie as tie
+
+abbrev Inv-loop : tie.InvT-loop
+Inv-loop bytes at₀ at = at ≤ length bytes
+
+abbrev μ-loop : tie.MeasureT-loop
+μ-loop bytes at₀ at = length bytes - at
+
+loop-holds : tie.Need-loop-holds Inv-loop μ-loop
+loop-holds c = search needs
+
+walk-step-requires : tie.Need-walk-step-requires Inv-loop μ-loop
+walk-step-requires c κs = search needs
+
+enum-told : tie.Need-enum-told Inv-loop μ-loop
+enum-told c = search needs
+
+walk-part-requires : tie.Need-walk-part-requires Inv-loop μ-loop
+walk-part-requires c κs = search needs
+
+packet-requires : tie.Need-packet-requires Inv-loop μ-loop
+packet-requires c κs = search needs
+
+enum-told-2 : tie.Need-enum-told-2 Inv-loop μ-loop
+enum-told-2 c = search needs
+
+returns : tie.Need-returns Inv-loop μ-loop
+returns c = search needs
+
+enum-known-found : tie.Need-enum-known-found Inv-loop μ-loop
+enum-known-found c = search needs
+
+stopped-requires : tie.Need-stopped-requires Inv-loop μ-loop
+stopped-requires c κs = search needs
+
+returns-2 : tie.Need-returns-2 Inv-loop μ-loop
+returns-2 c = search needs
+
+moved : (c : tie.After-packet Inv-loop μ-loop) → Turned (c .before .before .before .before .before .before .before .before .args .bytes .now) (c .before .before .before .before .before .before .loop .at) (c .before .before .before .before .walk-step .result .next)
+moved c =
+    walk-packet _ _ _
+    (sym (c .before .before .before .before .walk-step .ensures)
+    ∙ ap (λ (f : Found). step (saidFound f) (c .before .before .before .before .walk-step .result .next)) (c .before .before .enum-told .given .1))
+
+loop-less : tie.Need-loop-less Inv-loop μ-loop
+loop-less c = let m = moved c in omega arith
+
+loop-again : tie.Need-loop-again Inv-loop μ-loop
+loop-again c = moved c .within
+
+returns-3 : tie.Need-returns-3 Inv-loop μ-loop
+returns-3 c = search needs
+
+pub walk-spec : {M : Type 1} → statement M
+walk-spec =
+    tie.close
+    (tie.spec
+    Inv-loop
+    μ-loop
+    loop-holds
+    walk-step-requires
+    enum-told
+    walk-part-requires
+    packet-requires
+    enum-told-2
+    returns
+    enum-known-found
+    stopped-requires
+    returns-2
+    loop-less
+    loop-again
+    returns-3)

@@ -1,0 +1,89 @@
+//! Every report on random files: always an answer or a refusal in words, in time.
+
+use command_tests::{bogslipper, file, with_input};
+
+/// The xorshift generator of Marsaglia, with 64 bits.
+struct Random(u64);
+
+impl Random {
+    fn next(&mut self) -> u64 {
+        self.0 ^= self.0 << 13;
+        self.0 ^= self.0 >> 7;
+        self.0 ^= self.0 << 17;
+        self.0
+    }
+
+    fn below(&mut self, n: u64) -> u64 {
+        (self.next() >> 11) % n
+    }
+
+    fn bytes(&mut self, n: usize) -> Vec<u8> {
+        (0..n).map(|_| (self.next() >> 32) as u8).collect()
+    }
+}
+
+/// Sizes around the bounds first, then any up to 70,000.
+fn size(random: &mut Random, turn: usize) -> usize {
+    const FIRST: [usize; 16] = [0, 1, 2, 3, 4, 5, 7, 8, 9, 10, 11, 12, 65535, 65536, 69999, 70000];
+    match FIRST.get(turn) {
+        Some(&size) => size,
+        None if turn % 2 == 0 => random.below(200) as usize,
+        None => random.below(70001) as usize,
+    }
+}
+
+/// Random bytes; every second file opens like a packet of its own length, where it has room for that.
+fn contents(random: &mut Random, turn: usize) -> Vec<u8> {
+    let size = size(random, turn);
+    let mut bytes = random.bytes(size);
+    if turn % 2 == 1 && 4 <= size {
+        bytes[0] = 0x80 | bytes[0] & 0x1f;
+        bytes[1] = 200 + bytes[1] % 8;
+        let words = (random.below(size as u64 / 4) as u16).to_be_bytes();
+        bytes[2..4].copy_from_slice(&words);
+    }
+    bytes
+}
+
+fn two_hundred(report: &str, seed: u64) {
+    let mut random = Random(seed);
+    for turn in 0..200 {
+        let bytes = contents(&mut random, turn);
+        let path = file(&format!("random-{report}-{turn}"), &bytes);
+        let ran = bogslipper(&[report, &path]);
+        assert!(ran.status == 0 || ran.status == 1, "{path}: {}", ran.err);
+        assert_eq!(ran.err, "", "{path}");
+        assert!(ran.out.ends_with('\n'), "{path}");
+        assert_eq!(ran.status == 1, ran.out.contains("refused "), "{path}");
+        std::fs::remove_file(path).unwrap();
+    }
+}
+
+#[test]
+fn compounds() {
+    two_hundred("compound", 1);
+}
+
+#[test]
+fn nacks() {
+    two_hundred("nack", 2);
+}
+
+#[test]
+fn twcc_blocks() {
+    two_hundred("twcc", 3);
+}
+
+/// Random bytes as hex text: hardly ever hex, and then said so.
+#[test]
+fn as_hex_text() {
+    let mut random = Random(4);
+    for turn in 0..100 {
+        let bytes = contents(&mut random, turn);
+        let ran = with_input(&["twcc", "--hex", "-"], &bytes);
+        match ran.status {
+            2 => assert!(ran.out.is_empty() && ran.err.contains("hex digit")),
+            _ => assert!(!ran.out.is_empty() && ran.err.is_empty()),
+        }
+    }
+}

@@ -1,0 +1,88 @@
+//! Runs the command `bogslipper` on words and a standard input, with a limit on its time.
+
+use std::fs::File;
+use std::io::{Read, Write};
+use std::path::{Path, PathBuf};
+use std::process::{Command, Stdio};
+use std::thread;
+use std::time::{Duration, Instant};
+
+/// The longest that any report may take.
+const LIMIT: Duration = Duration::from_secs(20);
+
+/// How a run ended: its exit status, and what it wrote.
+pub struct Ran {
+    pub status: i32,
+    pub out: String,
+    pub err: String,
+}
+
+/// The repository's root.
+pub fn root() -> PathBuf {
+    Path::new(env!("CARGO_MANIFEST_DIR")).parent().unwrap().to_path_buf()
+}
+
+/// A path of the samples, as a word.
+pub fn sample(name: &str) -> String {
+    root().join("samples").join(name).to_str().unwrap().to_string()
+}
+
+/// The command's answer to these words.
+pub fn bogslipper(words: &[&str]) -> Ran {
+    with_input(words, b"")
+}
+
+/// The command's answer to these words, with this standard input.
+pub fn with_input(words: &[&str], input: &[u8]) -> Ran {
+    let mut child = Command::new(root().join("bogslipper"))
+        .args(words)
+        .stdin(Stdio::piped())
+        .stdout(Stdio::piped())
+        .stderr(Stdio::piped())
+        .spawn()
+        .expect("./bogslipper starts");
+
+    let mut stdin = child.stdin.take().unwrap();
+    let input = input.to_vec();
+    let writer = thread::spawn(move || {
+        // a command that has seen enough may close its input first
+        let _ = stdin.write_all(&input);
+    });
+    let out = collect(child.stdout.take().unwrap());
+    let err = collect(child.stderr.take().unwrap());
+
+    let start = Instant::now();
+    let status = loop {
+        if let Some(status) = child.try_wait().unwrap() {
+            break status;
+        }
+        if LIMIT < start.elapsed() {
+            child.kill().unwrap();
+            panic!("bogslipper {words:?} hangs");
+        }
+        thread::sleep(Duration::from_millis(1));
+    };
+    writer.join().unwrap();
+    Ran {
+        status: status.code().unwrap_or_else(|| panic!("bogslipper {words:?} crashed: {status}")),
+        out: out.join().unwrap(),
+        err: err.join().unwrap(),
+    }
+}
+
+fn collect(mut pipe: impl Read + Send + 'static) -> thread::JoinHandle<String> {
+    thread::spawn(move || {
+        let mut bytes = Vec::new();
+        pipe.read_to_end(&mut bytes).unwrap();
+        String::from_utf8(bytes).expect("plain text")
+    })
+}
+
+/// A file of these bytes in a folder of the test's own.
+pub fn file(name: &str, bytes: &[u8]) -> String {
+    let folder = Path::new(env!("CARGO_MANIFEST_DIR")).join("target/files");
+    std::fs::create_dir_all(&folder).unwrap();
+    let path = folder.join(name);
+    File::create(&path).unwrap().write_all(bytes).unwrap();
+    path.to_str().unwrap().to_string()
+}
