@@ -3,14 +3,18 @@
 use ours::Said;
 
 use crate::case::{Book, Effort, Seen};
+use crate::record::Case;
 
 pub fn compare(effort: &Effort) -> Vec<Book> {
-    let mut book = Book::new("arrival");
+    let mut book = effort.book("arrival");
     for time in [
         0, 1, 2, 255, 256, 8_388_607, 8_388_608, 16_777_214, 16_777_215,
     ] {
         for delta in i16::MIN..=i16::MAX {
             enter(&mut book, time, delta);
+        }
+        for delta in [i16::MIN, -256, -1, 0, 1, 255, 256, i16::MAX] {
+            book.table(|book| enter(book, time, delta));
         }
     }
     for time in [16_777_216, 16_777_217, 1 << 25, 1 << 31, u32::MAX] {
@@ -37,7 +41,6 @@ fn enter(book: &mut Book, time: u32, delta: i16) {
         said: ours::arrival(time, delta),
         wrong_place: None,
     };
-    book.enter(expected, seen, time as usize, || {
-        format!("time {time}, delta {delta}")
-    });
+    let numbers = [time.into(), delta.into()];
+    book.enter(expected, seen, Case::default().numbers(&numbers));
 }

@@ -1,16 +1,19 @@
 //! What every part uses: books of cases and disagreements, lent memory with guards, the crate's words in ours.
 
 use std::collections::BTreeMap;
-use std::fmt::{self, Write};
+use std::fmt;
 use std::panic::{catch_unwind, set_hook, take_hook, AssertUnwindSafe};
 
 use ours::{Random, Said};
 use rtcp_types::RtcpParseError;
 
-/// How much a run does, and from which seed.
+use crate::record::{Case, Sample};
+
+/// How much a run does, from which seed, and whether it keeps a sample of its cases.
 pub struct Effort {
     pub cases: u64,
     pub seed: u64,
+    pub records: bool,
 }
 
 impl Effort {
@@ -21,6 +24,14 @@ impl Effort {
 
     pub fn random(&self) -> Random {
         Random::new(self.seed)
+    }
+
+    /// The book of a call, which is named as in include/bogslipper.h.
+    pub fn book(&self, call: &'static str) -> Book {
+        Book {
+            sample: self.records.then(|| Sample::new(self.seed)),
+            ..Book::new(call)
+        }
     }
 }
 
@@ -61,19 +72,24 @@ pub struct Seen {
     pub wrong_place: Option<isize>,
 }
 
-/// The book of one call.
+/// The book of one call, or of a comparison of several.
 pub struct Book {
     call: &'static str,
     cases: u64,
     disagreements: u64,
     differences: BTreeMap<&'static str, u64>,
     smallest: Vec<(usize, String)>,
+    sample: Option<Sample>,
 }
 
 /// How many disagreements a book keeps to show: those with the smallest inputs.
 const SHOWN: usize = 4;
 
+/// How much of a disagreement's input is shown.
+const SHOWN_LENGTH: usize = 400;
+
 impl Book {
+    /// A book of which no sample is kept.
     pub fn new(call: &'static str) -> Self {
         Book {
             call,
@@ -81,26 +97,25 @@ impl Book {
             disagreements: 0,
             differences: BTreeMap::new(),
             smallest: Vec::new(),
+            sample: None,
         }
     }
 
-    /// Enters one case; `size` orders the inputs and `describe` writes one down if it is needed.
-    pub fn enter(
-        &mut self,
-        expected: impl Into<Expected>,
-        seen: Seen,
-        size: usize,
-        describe: impl FnOnce() -> String,
-    ) {
+    /// Enters one case.
+    pub fn enter(&mut self, expected: impl Into<Expected>, seen: Seen, case: Case) {
         let expected = expected.into();
         self.cases += 1;
         if let Some(name) = expected.difference {
             *self.differences.entry(name).or_default() += 1;
         }
+        if let Some(sample) = &mut self.sample {
+            sample.offer(self.call, &expected, &case);
+        }
         if seen.said == expected.said && seen.wrong_place.is_none() {
             return;
         }
         self.disagreements += 1;
+        let size = case.weight();
         if self.smallest.len() == SHOWN && self.smallest[SHOWN - 1].0 <= size {
             return;
         }
@@ -110,7 +125,7 @@ impl Book {
         };
         let text = format!(
             "{}\n      ours     {}{memory}\n      expected {}",
-            describe(),
+            shortened(case.given(self.call)),
             words(&seen.said),
             words(&expected.said)
         );
@@ -125,6 +140,27 @@ impl Book {
 
     pub fn disagreements(&self) -> u64 {
         self.disagreements
+    }
+
+    /// Enters cases of a table, all of which a recording keeps.
+    pub fn table(&mut self, enter: impl FnOnce(&mut Book)) {
+        self.keep_all(true);
+        enter(self);
+        self.keep_all(false);
+    }
+
+    /// Whether a recording keeps every case from now on.
+    pub fn keep_all(&mut self, all: bool) {
+        if let Some(sample) = &mut self.sample {
+            sample.keep_all(all);
+        }
+    }
+
+    /// The lines that a recording keeps, about as many as asked for.
+    pub fn lines(&self, most: usize) -> Vec<&str> {
+        self.sample
+            .as_ref()
+            .map_or(vec![], |sample| sample.lines(most))
     }
 }
 
@@ -155,27 +191,14 @@ fn words(said: &Said) -> String {
     format!("{kind} {:?}", said.values)
 }
 
-/// Bytes in hex for a reader, cut short where there are very many.
-pub fn hex(bytes: &[u8]) -> String {
-    const MOST: usize = 96;
-    let mut text = String::new();
-    for byte in bytes.iter().take(MOST) {
-        write!(text, "{byte:02X} ").expect("a string takes all");
+/// A text for a reader, cut short where it is very long.
+fn shortened(mut text: String) -> String {
+    let length = text.len();
+    if length > SHOWN_LENGTH {
+        text.truncate(SHOWN_LENGTH);
+        text += &format!(".. ({length} characters)");
     }
-    match bytes.len() {
-        0 => "no bytes".to_string(),
-        length if length > MOST => format!("{text}.. ({length} bytes)"),
-        _ => text.trim_end().to_string(),
-    }
-}
-
-/// The first numbers of a list for a reader.
-pub fn few<T: fmt::Debug>(numbers: &[T]) -> String {
-    const MOST: usize = 40;
-    match numbers.len() {
-        length if length > MOST => format!("{:?} .. ({length} in all)", &numbers[..MOST]),
-        _ => format!("{numbers:?}"),
-    }
+    text
 }
 
 /// An element of lent memory that can be filled with anything.
@@ -236,6 +259,11 @@ impl<T: Element> Lent<T> {
         &self.after[self.front..self.front + self.length]
     }
 
+    /// What the part held before the call.
+    pub fn was(&self) -> &[T] {
+        &self.before[self.front..self.front + self.length]
+    }
+
     pub fn part_mut(&mut self) -> &mut [T] {
         &mut self.after[self.front..self.front + self.length]
     }
@@ -264,6 +292,14 @@ impl<T: Element> Lent<T> {
     /// The first place that changed.
     pub fn changed_place(&self) -> Option<isize> {
         self.wrong_place(&[])
+    }
+}
+
+/// Any bytes; more than a few thousand are one byte again and again, so that a recording can hold them.
+pub fn any_bytes(random: &mut Random, length: usize) -> Vec<u8> {
+    match length {
+        0..=4_096 => random.bytes(length),
+        _ => vec![random.byte(); length],
     }
 }
 

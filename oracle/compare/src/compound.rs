@@ -4,14 +4,15 @@ use ours::{Random, Said};
 use rtcp_types::prelude::*;
 use rtcp_types::{Compound, Packet, RtcpWriteError, Unknown, UnknownBuilder};
 
-use crate::case::{hex, read_only, refused_reading, Book, Effort, Expected, Lent, Seen};
+use crate::case::{any_bytes, read_only, refused_reading, Book, Effort, Expected, Lent, Seen};
+use crate::record::{Case, Memory};
 
 pub fn compare(effort: &Effort) -> Vec<Book> {
     let mut readers = Readers {
         random: effort.random(),
-        compound: Book::new("compound_parse"),
-        unknown: Book::new("unknown_parse"),
-        step: Book::new("walk_step"),
+        compound: effort.book("compound_parse"),
+        unknown: effort.book("unknown_parse"),
+        step: effort.book("walk_step"),
         walk: Book::new("walk, whole"),
     };
     read_fixed_compounds(&mut readers);
@@ -43,11 +44,10 @@ impl Readers {
         let random = &mut self.random;
         let seen = read_only(random, data, ours::compound_parse);
         let expected = expected_compound(data);
-        self.compound
-            .enter(expected, seen, data.len(), || hex(data));
+        self.compound.enter(expected, seen, Case::reading(data));
         let seen = read_only(random, data, ours::unknown_parse);
         let expected = expected_unknown(data);
-        self.unknown.enter(expected, seen, data.len(), || hex(data));
+        self.unknown.enter(expected, seen, Case::reading(data));
         self.walk(data);
     }
 
@@ -69,27 +69,28 @@ impl Readers {
             };
             over = expected.number != 0;
             let seen = read_only(&mut self.random, data, |data| ours::walk_step(data, offset));
-            self.walk.enter(expected, seen, data.len(), || {
-                format!("offset {offset} of {}", hex(data))
-            });
+            let numbers = [offset.into()];
+            self.walk
+                .enter(expected, seen, Case::reading(data).numbers(&numbers));
             offset = expected.values[1];
         }
         if !over {
             let seen = read_only(&mut self.random, data, |data| ours::walk_step(data, offset));
             let expected = Said::answer(&[1, data.len() as u64]);
-            self.walk.enter(expected, seen, data.len(), || {
-                format!("offset {offset} of {}", hex(data))
-            });
+            let numbers = [offset.into()];
+            self.walk
+                .enter(expected, seen, Case::reading(data).numbers(&numbers));
         }
     }
 
     /// One step from any offset.
     fn step(&mut self, data: &[u8], offset: u64) {
         let seen = read_only(&mut self.random, data, |data| ours::walk_step(data, offset));
-        self.step
-            .enter(expected_step(data, offset), seen, data.len(), || {
-                format!("offset {offset} of {}", hex(data))
-            });
+        let expected = expected_step(data, offset);
+        let kind = ["packet", "over"][expected.values[0].min(1) as usize];
+        let numbers = [offset.into()];
+        let case = Case::reading(data).numbers(&numbers).kind(kind);
+        self.step.enter(expected, seen, case);
     }
 
     /// One step from every offset inside, some past the end, and some near the largest.
@@ -155,7 +156,9 @@ fn read_fixed_compounds(readers: &mut Readers) {
     ];
     for (data, said) in table {
         let seen = read_only(&mut readers.random, data, ours::compound_parse);
-        readers.compound.enter(said, seen, data.len(), || hex(data));
+        readers
+            .compound
+            .table(|book| book.enter(said, seen, Case::reading(data)));
         readers.read(data);
         readers.step_from_everywhere(data);
     }
@@ -188,7 +191,7 @@ fn read_short_inputs(readers: &mut Readers) {
 fn push_packet(data: &mut Vec<u8>, random: &mut Random, first: u8, kind: u8, words: u16) {
     data.extend([first, kind]);
     data.extend(words.to_be_bytes());
-    data.extend(random.bytes(4 * usize::from(words)));
+    data.extend(any_bytes(random, 4 * usize::from(words)));
 }
 
 /// A whole compound of unpadded packets with types outside 200 to 207, and the places of its headers.
@@ -310,6 +313,16 @@ impl Plain {
         }
     }
 
+    fn numbers(&self) -> [i128; 3] {
+        [self.count.into(), self.kind.into(), self.padding.into()]
+    }
+
+    fn case<'a>(&'a self, numbers: &'a [i128], out: &'a Lent<u8>, answer: &'a [u8]) -> Case<'a> {
+        Case::reading(&self.body)
+            .numbers(numbers)
+            .lent(Memory::Bytes(out.was()), Memory::Bytes(answer))
+    }
+
     fn enter(&self, book: &mut Book, random: &mut Random, bytes: &[u8], room: usize) {
         let body = Lent::holding(random, &self.body);
         let mut out = Lent::anything(random, room);
@@ -324,15 +337,8 @@ impl Plain {
         let answer = if expected.is_answer() { bytes } else { &[] };
         let wrong_place = body.changed_place().or(out.wrong_place(answer));
         let seen = Seen { said, wrong_place };
-        book.enter(expected, seen, self.body.len() + room, || {
-            format!(
-                "count {}, type {}, padding {}, room {room}, body {}",
-                self.count,
-                self.kind,
-                self.padding,
-                hex(&self.body)
-            )
-        });
+        let numbers = self.numbers();
+        book.enter(expected, seen, self.case(&numbers, &out, answer));
     }
 
     /// All rooms that matter for this packet.
@@ -346,9 +352,9 @@ impl Plain {
 }
 
 fn compare_write(effort: &Effort) -> Book {
-    let mut book = Book::new("unknown_write");
+    let mut book = effort.book("unknown_write");
     let random = &mut effort.random();
-    write_first_of_several(&mut book, random);
+    book.table(|book| write_first_of_several(book, random));
     for number in 0..=255 {
         for length in 0..=12 {
             let paddings = [number, 0, 4, 252];
@@ -377,6 +383,11 @@ fn compare_write(effort: &Effort) -> Book {
             let bytes = plain.bytes();
             plain.enter(&mut book, random, &bytes, bytes.len());
             plain.enter(&mut book, random, &bytes, bytes.len() - 1);
+            let even = Plain {
+                body: any_bytes(random, length),
+                ..plain
+            };
+            even.enter(&mut book, random, &even.bytes(), 8);
         }
     }
     for _ in 0..effort.at_least(40_000) {
@@ -421,8 +432,6 @@ fn write_first_of_several(book: &mut Book, random: &mut Random) {
             ),
             wrong_place: out.wrong_place(&bytes),
         };
-        book.enter(said, seen, room, || {
-            format!("mixture {faults:04b} of faults")
-        });
+        book.enter(said, seen, plain.case(&plain.numbers(), &out, &bytes));
     }
 }

@@ -4,7 +4,10 @@ use ours::{Random, Said};
 use rtcp_types::utils::parser;
 use rtcp_types::{RtcpPacket, RtcpParseError};
 
-use crate::case::{hex, read_only, refused_reading, unless_it_panics, Book, Effort, Expected};
+use crate::case::{
+    any_bytes, read_only, refused_reading, unless_it_panics, Book, Effort, Expected,
+};
+use crate::record::Case;
 
 pub fn compare(effort: &Effort) -> Vec<Book> {
     let mut books: Vec<Book> = FIELDS.iter().map(|field| field.compare(effort)).collect();
@@ -50,11 +53,11 @@ const FIELDS: [Field; 5] = [
 
 impl Field {
     fn compare(&self, effort: &Effort) -> Book {
-        let mut book = Book::new(self.call);
+        let mut book = effort.book(self.call);
         let random = &mut effort.random();
         for_short_inputs(effort, |data| {
             let seen = read_only(random, data, self.ours);
-            book.enter(self.expected(data), seen, data.len(), || hex(data));
+            book.enter(self.expected(data), seen, Case::reading(data));
         });
         book
     }
@@ -109,17 +112,19 @@ fn put(data: &mut [u8], place: usize, bytes: &[u8]) {
 }
 
 fn compare_padding(effort: &Effort) -> Book {
-    let mut book = Book::new("padding");
+    let mut book = effort.book("padding");
     let random = &mut effort.random();
     let mut visit = |random: &mut Random, data: &[u8]| {
         let seen = read_only(random, data, ours::padding);
-        book.enter(expected_padding(data), seen, data.len(), || hex(data));
+        let expected = expected_padding(data);
+        let kind = ["clear", "set"][expected.said.values[0].min(1) as usize];
+        book.enter(expected, seen, Case::reading(data).kind(kind));
     };
     for_short_inputs(effort, |data| visit(random, data));
     for words in (0..=40).chain([255, 256, 4_095, 65_535]) {
         let stated = 4 * (words + 1);
         for length in [stated - 1, stated, stated + 1, stated + 5] {
-            let mut data = random.bytes(length);
+            let mut data = any_bytes(random, length);
             for first in [0x80, 0xA0, 0x20, 0xFF] {
                 put(&mut data, 0, &[first]);
                 put(&mut data, 2, &(words as u16).to_be_bytes());
@@ -192,9 +197,12 @@ impl Check {
         let seen = read_only(random, data, |data| {
             ours::check_packet(data, self.least, self.kind)
         });
-        book.enter(self.expected(data), seen, data.len(), || {
-            format!("least {}, type {}: {}", self.least, self.kind, hex(data))
-        });
+        let numbers = [self.least.into(), self.kind.into()];
+        book.enter(
+            self.expected(data),
+            seen,
+            Case::reading(data).numbers(&numbers),
+        );
     }
 
     fn expected(&self, data: &[u8]) -> Expected {
@@ -209,9 +217,9 @@ impl Check {
 }
 
 fn compare_check_packet(effort: &Effort) -> Book {
-    let mut book = Book::new("check_packet");
+    let mut book = effort.book("check_packet");
     let random = &mut effort.random();
-    check_first_of_several(&mut book, random);
+    book.table(|book| check_first_of_several(book, random));
     for check in CHECKS {
         check_short_packets(&check, &mut book, random);
         check_around_the_stated_length(&check, &mut book, random);
@@ -247,7 +255,7 @@ fn check_around_the_stated_length(check: &Check, book: &mut Book, random: &mut R
         let stated = 4 * (usize::from(field) + 1);
         for length in stated.saturating_sub(5)..=stated + 5 {
             for (first, last) in [(0x80, 0), (0xA0, 0), (0xA0, 1), (0xBF, 4), (0xA1, 255)] {
-                let mut data = random.bytes(length);
+                let mut data = any_bytes(random, length);
                 data.iter_mut().rev().take(1).for_each(|byte| *byte = last);
                 put(&mut data, 0, &[first, check.kind]);
                 put(&mut data, 2, &u16::to_be_bytes(field));
@@ -303,8 +311,7 @@ fn check_first_of_several(book: &mut Book, random: &mut Random) {
     ];
     for (data, least, kind, said) in table {
         let seen = read_only(random, data, |data| ours::check_packet(data, least, kind));
-        book.enter(said, seen, data.len(), || {
-            format!("least {least}, type {kind}: {}", hex(data))
-        });
+        let numbers = [least.into(), kind.into()];
+        book.enter(said, seen, Case::reading(data).numbers(&numbers));
     }
 }

@@ -5,6 +5,7 @@ mod case;
 mod compound;
 mod header;
 mod nack;
+mod record;
 mod twcc_read;
 mod twcc_write;
 
@@ -12,6 +13,7 @@ use std::process::ExitCode;
 use std::time::Instant;
 
 use case::{Book, Effort};
+use record::OPENING;
 
 /// A part: its name and what compares it.
 type Part = (&'static str, fn(&Effort) -> Vec<Book>);
@@ -26,22 +28,32 @@ const PARTS: &[Part] = &[
 ];
 
 const HELP: &str = "\
-compare [--cases N] [--seed S] [--only NAME]
+compare [--cases N] [--seed S] [--record FILE [--most N]] [--only NAME]
 
   --cases N    random cases a call, where that is more than its own number
   --seed S     the seed of the random cases (default 1)
+  --record FILE  writes a sample of the cases, with what is expected of each
+  --most N     about how many cases of a call are recorded (default 300)
   --only NAME  one part alone";
 
 struct Wishes {
     effort: Effort,
     only: Option<String>,
+    record: Option<String>,
+    most: usize,
 }
 
 /// The wishes on the command line; `Ok(None)` asks for help.
 fn wishes(mut words: impl Iterator<Item = String>) -> Result<Option<Wishes>, String> {
     let mut wishes = Wishes {
-        effort: Effort { cases: 0, seed: 1 },
+        effort: Effort {
+            cases: 0,
+            seed: 1,
+            records: false,
+        },
         only: None,
+        record: None,
+        most: 300,
     };
     while let Some(word) = words.next() {
         let mut value = || words.next().ok_or(format!("{word} wants a value"));
@@ -49,10 +61,13 @@ fn wishes(mut words: impl Iterator<Item = String>) -> Result<Option<Wishes>, Str
             "--help" => return Ok(None),
             "--cases" => wishes.effort.cases = number(&word, &value()?)?,
             "--seed" => wishes.effort.seed = number(&word, &value()?)?,
+            "--record" => wishes.record = Some(value()?),
+            "--most" => wishes.most = number(&word, &value()?)? as usize,
             "--only" => wishes.only = Some(part_name(value()?)?),
             _ => return Err(format!("unknown word: {word}")),
         }
     }
+    wishes.effort.records = wishes.record.is_some();
     Ok(Some(wishes))
 }
 
@@ -84,23 +99,36 @@ fn main() -> ExitCode {
         }
     };
     println!("call                  cases disagreements  listed differences met");
-    let (mut cases, mut disagreements) = (0, 0);
     let start = Instant::now();
+    let mut books = vec![];
     for (name, compare) in PARTS {
         if wishes.only.as_ref().is_some_and(|only| only != name) {
             continue;
         }
         for book in compare(&wishes.effort) {
             println!("{book}");
-            cases += book.cases();
-            disagreements += book.disagreements();
+            books.push(book);
         }
     }
+    let cases: u64 = books.iter().map(Book::cases).sum();
+    let disagreements: u64 = books.iter().map(Book::disagreements).sum();
     let seconds = start.elapsed().as_secs_f64();
     println!("total            {cases:>10} {disagreements:>13}  {seconds:.1} s");
+    if let Some(path) = &wishes.record {
+        if let Err(error) = std::fs::write(path, recording(&books, wishes.most)) {
+            eprintln!("compare: {path} can't be written: {error}");
+            return ExitCode::from(2);
+        }
+    }
     if disagreements == 0 {
         ExitCode::SUCCESS
     } else {
         ExitCode::FAILURE
     }
+}
+
+/// A recording of about so many cases of each book.
+fn recording(books: &[Book], most: usize) -> String {
+    let lines: Vec<&str> = books.iter().flat_map(|book| book.lines(most)).collect();
+    format!("{OPENING}{}\nend {}\n", lines.join("\n"), lines.len())
 }

@@ -6,7 +6,8 @@ use ours::{Random, Said};
 use rtcp_types::prelude::*;
 use rtcp_types::{Nack, NackBuilder};
 
-use crate::case::{few, hex, Book, Effort, Lent, Seen};
+use crate::case::{Book, Effort, Lent, Seen};
+use crate::record::{Case, Memory};
 
 /// The bytes of a store: one bit for each of the 65,536 numbers.
 const STORE: usize = 8_192;
@@ -28,9 +29,26 @@ fn store_of(numbers: &[u16]) -> Vec<u8> {
     store
 }
 
+/// Lent bytes of any length with a few bits set.
+fn store_of_length(random: &mut Random, length: usize) -> Lent<u8> {
+    let mut store = vec![0; length];
+    for _ in 0..random.below(8).min(length as u64) {
+        let place = random.below(length as u64) as usize;
+        store[place] |= 1 << random.below(8);
+    }
+    Lent::holding(random, &store)
+}
+
 fn compare_add(effort: &Effort) -> Book {
-    let mut book = Book::new("nack_add");
+    let mut book = effort.book("nack_add");
     let random = &mut effort.random();
+    for number in [0, 1, 7, 8, 15, 16, 255, 256, 65_527, 65_528, 65_534, 65_535] {
+        book.table(|book| {
+            add_to(book, random, &[], number);
+            add_to(book, random, &[number], number);
+            add_to(book, random, &[0, 9, 65_535], number);
+        });
+    }
     for number in 0..=u16::MAX {
         add_to(&mut book, random, &[], number);
     }
@@ -44,15 +62,17 @@ fn compare_add(effort: &Effort) -> Book {
     }
     for length in [0, 1, STORE - 1, STORE + 1, 2 * STORE] {
         for number in [0, 7, 8, 65_535] {
-            let mut store = Lent::anything(random, length);
+            let mut store = store_of_length(random, length);
             let seen = Seen {
                 said: ours::nack_add(store.part_mut(), number),
                 wrong_place: store.changed_place(),
             };
             let expected = Said::refusal(16, &[length as u64]);
-            book.enter(expected, seen, length, || {
-                format!("{number} to a store of {length} bytes")
-            });
+            let numbers = [number.into(), length as i128];
+            let case = Case::default()
+                .numbers(&numbers)
+                .lent(Memory::Store(store.was()), Memory::Store(&[]));
+            book.enter(expected, seen, case);
         }
     }
     book
@@ -67,18 +87,33 @@ fn add_to(book: &mut Book, random: &mut Random, held: &[u16], number: u16) {
     let mut store = Lent::holding(random, &store_of(held));
     let said = ours::nack_add(store.part_mut(), number);
     let with_it: Vec<u16> = held.iter().copied().chain([number]).collect();
+    let answer = store_of(&with_it);
     let seen = Seen {
         said,
-        wrong_place: store.wrong_place(&store_of(&with_it)),
+        wrong_place: store.wrong_place(&answer),
     };
-    book.enter(Said::answer(&[]), seen, held.len(), || {
-        format!("{number} to {}", few(held))
-    });
+    let numbers = [number.into(), STORE as i128];
+    let case = Case::default()
+        .numbers(&numbers)
+        .lent(Memory::Store(store.was()), Memory::Store(&answer))
+        .kind(if held.contains(&number) { "held" } else { "" });
+    book.enter(Said::answer(&[]), seen, case);
 }
 
 fn compare_read(effort: &Effort) -> Book {
-    let mut book = Book::new("nack_read");
+    let mut book = effort.book("nack_read");
     let random = &mut effort.random();
+    let table: [&[u8]; 6] = [
+        &[],
+        &[0, 10, 0, 3],
+        &[0, 10, 0, 3, 0xFF],
+        &[0xFF, 0xFF, 0, 1],
+        &[0xFF, 0xFE, 0xFF, 0xFF, 0xFF, 0xFE, 0x80, 1, 0, 0, 0],
+        &[0, 5, 0, 0, 0, 5, 0, 0],
+    ];
+    for data in table {
+        book.table(|book| read_rooms(book, random, data));
+    }
     for base in [0_u16, 1, 65_535, 65_520] {
         for mask in 0..=u16::MAX {
             let [a, b] = base.to_be_bytes();
@@ -141,14 +176,25 @@ fn read(book: &mut Book, random: &mut Random, data: &[u8], room: usize) {
         said,
         wrong_place: lent.changed_place().or(list.wrong_place(answer)),
     };
-    book.enter(expected, seen, data.len() + room, || {
-        format!("room {room}, {}", hex(data))
-    });
+    let case = Case::reading(data).lent(Memory::Shorts(list.was()), Memory::Shorts(answer));
+    book.enter(expected, seen, case);
 }
 
 fn compare_write(effort: &Effort) -> Book {
-    let mut book = Book::new("nack_write");
+    let mut book = effort.book("nack_write");
     let random = &mut effort.random();
+    let table: [&[u16]; 7] = [
+        &[],
+        &[0],
+        &[65_535],
+        &[0, 16],
+        &[0, 17],
+        &[65_535, 0],
+        &[65_518, 65_519, 65_534, 65_535],
+    ];
+    for numbers in table {
+        book.table(|book| write_rooms(book, random, numbers));
+    }
     for mask in 0..=u16::MAX {
         let base: u16 = [0, 1, 65_535, 65_520][usize::from(mask ^ mask >> 2) % 4];
         let numbers = rust_numbers(&[base.to_be_bytes(), mask.to_be_bytes()].concat());
@@ -176,16 +222,19 @@ fn compare_write(effort: &Effort) -> Book {
     }
     for length in [0, 1, STORE - 1, STORE + 1, 2 * STORE] {
         for room in [0, 4, 20_000] {
-            let store = Lent::anything(random, length);
+            let store = store_of_length(random, length);
             let mut out: Lent<u8> = Lent::anything(random, room);
             let seen = Seen {
                 said: ours::nack_write(store.part(), out.part_mut()),
                 wrong_place: store.changed_place().or(out.changed_place()),
             };
             let expected = Said::refusal(16, &[length as u64]);
-            book.enter(expected, seen, length + room, || {
-                format!("a store of {length} bytes, room {room}")
-            });
+            let numbers = [length as i128];
+            let case = Case::default()
+                .numbers(&numbers)
+                .read(Memory::Store(store.was()))
+                .lent(Memory::Bytes(out.was()), Memory::Bytes(&[]));
+            book.enter(expected, seen, case);
         }
     }
     book
@@ -263,7 +312,10 @@ fn write(book: &mut Book, random: &mut Random, numbers: &[u16], bytes: &[u8], ro
         said,
         wrong_place: store.changed_place().or(out.wrong_place(answer)),
     };
-    book.enter(expected, seen, numbers.len() + room, || {
-        format!("room {room}, numbers {}", few(numbers))
-    });
+    let lengths = [STORE as i128];
+    let case = Case::default()
+        .numbers(&lengths)
+        .read(Memory::Store(store.was()))
+        .lent(Memory::Bytes(out.was()), Memory::Bytes(answer));
+    book.enter(expected, seen, case);
 }

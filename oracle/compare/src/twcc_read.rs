@@ -4,7 +4,8 @@ use ours::{Random, Said};
 use rtcp_types::prelude::*;
 use rtcp_types::{RtcpParseError, Twcc, TwccPacketStatus};
 
-use crate::case::{hex, refused_reading, Book, Effort, Lent, Seen};
+use crate::case::{refused_reading, Book, Effort, Lent, Seen};
+use crate::record::{Case, Memory};
 
 /// The words of a status list that are no deltas.
 pub const NOT_RECEIVED: i32 = 32_768;
@@ -14,9 +15,12 @@ const RESERVED: i32 = 32_770;
 pub fn compare(effort: &Effort) -> Vec<Book> {
     let mut reader = Reader {
         random: effort.random(),
-        book: Book::new("twcc_read"),
+        book: effort.book("twcc_read"),
     };
+    reader.book.keep_all(true);
     reader.read_fixed_blocks();
+    reader.book.keep_all(false);
+    reader.read_long_runs();
     reader.read_every_chunk();
     reader.read_random_blocks(effort);
     reader.read_cut_blocks(effort);
@@ -46,6 +50,18 @@ fn word_of(status: TwccPacketStatus) -> i32 {
     }
 }
 
+fn case<'a>(block: &'a [u8], list: &'a Lent<i32>, words: &'a [i32]) -> Case<'a> {
+    let kind = match words.iter().max() {
+        Some(&RESERVED) => "reserved",
+        Some(&TRUNCATED) => "truncated",
+        Some(_) => "sound",
+        None => "none",
+    };
+    Case::reading(block)
+        .lent(Memory::Words(list.was()), Memory::Words(words))
+        .kind(kind)
+}
+
 struct Reader {
     random: Random,
     book: Book,
@@ -68,17 +84,19 @@ impl Reader {
     }
 
     fn read(&mut self, block: &[u8], room: usize) {
-        let (expected, words) = expected_read(block, room);
+        let list = Lent::anything(&mut self.random, room);
+        self.read_into(block, list);
+    }
+
+    fn read_into(&mut self, block: &[u8], mut list: Lent<i32>) {
+        let (expected, words) = expected_read(block, list.was().len());
         let lent = Lent::holding(&mut self.random, block);
-        let mut list = Lent::anything(&mut self.random, room);
         let said = ours::twcc_read(lent.part(), list.part_mut());
         let seen = Seen {
             said,
             wrong_place: lent.changed_place().or(list.wrong_place(&words)),
         };
-        self.book.enter(expected, seen, block.len() + room, || {
-            format!("room {room}, {}", hex(block))
-        });
+        self.book.enter(expected, seen, case(block, &list, &words));
     }
 
     /// The fixed examples, with their own words as the expectation.
@@ -96,8 +114,20 @@ impl Reader {
                 wrong_place: list.wrong_place(words),
             };
             let expected = Said::answer(&[5, block[3].into(), 0, 0, words.len() as u64]);
-            self.book.enter(expected, seen, block.len(), || hex(block));
+            self.book.enter(expected, seen, case(block, &list, words));
             self.read_rooms(block);
+        }
+    }
+
+    /// Runs of the greatest length into even memory: lost packets, and packets without their deltas.
+    fn read_long_runs(&mut self) {
+        for (chunk, count) in [(0x1FFF, 8_191), (0x3FFF, 16_000), (0x7FFF, 65_535)] {
+            let chunks = vec![chunk; usize::from(count).div_ceil(8_191)];
+            let block = self.block(count, &chunks, 0);
+            for room in [0, count - 1, count, count.saturating_add(1)] {
+                let list = Lent::holding(&mut self.random, &vec![7; usize::from(room)]);
+                self.read_into(&block, list);
+            }
         }
     }
 

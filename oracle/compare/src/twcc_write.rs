@@ -4,7 +4,8 @@ use ours::{Random, Said};
 use rtcp_types::prelude::*;
 use rtcp_types::{RtcpWriteError, TwccBuilder, TwccPacketStatus};
 
-use crate::case::{few, hex, Book, Effort, Expected, Lent, Seen};
+use crate::case::{Book, Effort, Expected, Lent, Seen};
+use crate::record::{Case, Memory};
 use crate::twcc_read::NOT_RECEIVED;
 
 /// The longest list that a call takes.
@@ -13,12 +14,15 @@ const MOST: usize = 16_384;
 pub fn compare(effort: &Effort) -> Vec<Book> {
     let mut writer = Writer {
         random: effort.random(),
-        write: Book::new("twcc_write"),
+        write: effort.book("twcc_write"),
         whole: Book::new("twcc, cut, read"),
     };
+    writer.write.keep_all(true);
     writer.write_fixed_blocks();
+    writer.write.keep_all(false);
     writer.write_first_of_several();
     writer.write_longest_lists();
+    writer.write_words_out_of_range();
     writer.write_every_short_string();
     writer.write_two_runs();
     writer.write_rooms_and_limits(effort);
@@ -36,6 +40,14 @@ struct Order {
 }
 
 impl Order {
+    /// The plain parameters of the call.
+    fn numbers(&self) -> [i128; 5] {
+        let limited = self.limit.is_some().into();
+        let limit = self.limit.unwrap_or(0).into();
+        let (base, time, feedback) = (self.base.into(), self.time.into(), self.feedback.into());
+        [base, time, feedback, limited, limit]
+    }
+
     /// What reading says of a whole block of this order with that many entries.
     fn reads_as(&self, taken: u64) -> Said {
         let (base, time, feedback) = (self.base.into(), self.time.into(), self.feedback.into());
@@ -71,6 +83,13 @@ struct Call<'a> {
     list: &'a Lent<i32>,
     from: usize,
     room: usize,
+}
+
+fn case<'a>(numbers: &'a [i128], list: &'a [i32], out: &'a Lent<u8>, answer: &'a [u8]) -> Case<'a> {
+    Case::default()
+        .numbers(numbers)
+        .read(Memory::Words(list))
+        .lent(Memory::Bytes(out.was()), Memory::Bytes(answer))
 }
 
 fn status_of(word: &i32) -> TwccPacketStatus {
@@ -184,14 +203,14 @@ impl Writer {
         let wrong_place = call.list.changed_place().or(out.wrong_place(answer));
         let bytes = &out.part()[..room.min(block.bytes.len())];
         let seen = Seen { said, wrong_place };
-        self.write.enter(expected, seen, list.len() + room, || {
-            format!(
-                "{order:?}, room {room}, list {}\n      our bytes  {}\n      the Rust's {}",
-                few(list),
-                hex(bytes),
-                hex(&block.bytes)
-            )
-        });
+        let kind = match order.limit {
+            _ if block.taken < list.len() => "cut",
+            Some(_) => "limited",
+            None => "whole",
+        };
+        let numbers = order.numbers();
+        let case = case(&numbers, list, &out, answer).kind(kind);
+        self.write.enter(expected, seen, case);
         (said, bytes.to_vec())
     }
 
@@ -264,9 +283,15 @@ impl Writer {
                 wrong_place: out.wrong_place(&bytes),
             };
             let expected = Said::answer(&[bytes.len() as u64, taken]);
-            self.write.enter(expected, seen, list.len(), || {
-                format!("limit {limit:?}, list {}", few(&list))
-            });
+            let order = Order {
+                base: 1,
+                time: 0,
+                feedback: 0,
+                limit,
+            };
+            let numbers = order.numbers();
+            self.write
+                .enter(expected, seen, case(&numbers, &list, &out, &bytes));
         }
     }
 
@@ -278,7 +303,8 @@ impl Writer {
             (16_777_217, 65_536, i32::MAX, 1, 11),
             (1 << 31, 20_000, i32::MIN, 4, 3),
         ];
-        for values in faulty {
+        for (turn, values) in faulty.into_iter().enumerate() {
+            self.write.keep_all(turn == 0);
             for mixture in 0..32 {
                 self.write_mixture(mixture, values);
             }
@@ -309,9 +335,15 @@ impl Writer {
             said: ours::twcc_write(9, time, 1, &list, Some(limit), out.part_mut()),
             wrong_place: out.wrong_place(bytes),
         };
-        self.write.enter(said, seen, list.len() + room, || {
-            format!("mixture {mixture:05b} of faults, list of {}", list.len())
-        });
+        let order = Order {
+            base: 9,
+            time,
+            feedback: 1,
+            limit: Some(limit),
+        };
+        let numbers = order.numbers();
+        self.write
+            .enter(said, seen, case(&numbers, &list, &out, bytes));
     }
 
     /// Words out of range at any place of the longest list, before any limit; and lists at the bound.
@@ -328,6 +360,27 @@ impl Writer {
         for length in [MOST, MOST + 1, 70_000] {
             let order = self.order(None);
             self.write(order, &vec![NOT_RECEIVED; length], 0);
+        }
+    }
+
+    /// Short lists with one to three words out of range, under any limit.
+    fn write_words_out_of_range(&mut self) {
+        for _ in 0..2_000 {
+            let length = self.random.from_to(1, 30) as usize;
+            let mut list = self.list(length);
+            for _ in 0..self.random.from_to(1, 3) {
+                let place = self.random.below(length as u64) as usize;
+                list[place] = match self.random.below(4) {
+                    0 => self.random.pick(&[i32::MIN, -65_536, 65_535, i32::MAX]),
+                    1 => self.random.pick(&[-32_770, -32_769]),
+                    _ => self.random.pick(&[32_769, 32_770]),
+                };
+            }
+            let limit = self
+                .random
+                .pick(&[None, Some(0), Some(8), Some(24), Some(100)]);
+            let order = self.order(limit);
+            self.write(order, &list, 5);
         }
     }
 
@@ -480,9 +533,9 @@ impl Writer {
             wrong_place: first_difference(&back, list),
         };
         let expected = Said::answer(&[list.len() as u64, 1]);
-        self.whole.enter(expected, seen, list.len(), || {
-            format!("limit {:?}, list {}", order.limit, few(list))
-        });
+        let numbers = order.numbers();
+        let case = Case::default().numbers(&numbers).read(Memory::Words(list));
+        self.whole.enter(expected, seen, case);
     }
 }
 
