@@ -24,7 +24,9 @@ impl Random {
 
 /// Sizes around the bounds first, then any up to 70,000.
 fn size(random: &mut Random, turn: usize) -> usize {
-    const FIRST: [usize; 16] = [0, 1, 2, 3, 4, 5, 7, 8, 9, 10, 11, 12, 65535, 65536, 69999, 70000];
+    const FIRST: [usize; 16] = [
+        0, 1, 2, 3, 4, 5, 7, 8, 9, 10, 11, 12, 65535, 65536, 69999, 70000,
+    ];
     match FIRST.get(turn) {
         Some(&size) => size,
         None if turn % 2 == 0 => random.below(200) as usize,

@@ -19,12 +19,20 @@ pub struct Ran {
 
 /// The repository's root.
 pub fn root() -> PathBuf {
-    Path::new(env!("CARGO_MANIFEST_DIR")).parent().unwrap().to_path_buf()
+    Path::new(env!("CARGO_MANIFEST_DIR"))
+        .parent()
+        .unwrap()
+        .to_path_buf()
 }
 
 /// A path of the samples, as a word.
 pub fn sample(name: &str) -> String {
-    root().join("samples").join(name).to_str().unwrap().to_string()
+    root()
+        .join("samples")
+        .join(name)
+        .to_str()
+        .unwrap()
+        .to_string()
 }
 
 /// The command's answer to these words.
@@ -64,7 +72,9 @@ pub fn with_input(words: &[&str], input: &[u8]) -> Ran {
     };
     writer.join().unwrap();
     Ran {
-        status: status.code().unwrap_or_else(|| panic!("bogslipper {words:?} crashed: {status}")),
+        status: status
+            .code()
+            .unwrap_or_else(|| panic!("bogslipper {words:?} crashed: {status}")),
         out: out.join().unwrap(),
         err: err.join().unwrap(),
     }

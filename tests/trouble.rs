@@ -8,7 +8,11 @@ const REPORTS: [&str; 3] = ["compound", "nack", "twcc"];
 fn trouble(words: &[&str], message: &str) {
     let ran = bogslipper(words);
     assert_eq!((ran.status, ran.out.as_str()), (2, ""), "{words:?}");
-    assert!(ran.err.starts_with("bogslipper: "), "{words:?}: {}", ran.err);
+    assert!(
+        ran.err.starts_with("bogslipper: "),
+        "{words:?}: {}",
+        ran.err
+    );
     assert!(ran.err.contains(message), "{words:?}: {}", ran.err);
 }
 
@@ -18,7 +22,10 @@ fn help() {
         let ran = bogslipper(words);
         assert_eq!((ran.status, ran.err.as_str()), (0, ""), "{words:?}");
         for report in REPORTS {
-            assert!(ran.out.contains(&format!("bogslipper {report} FILE")), "{words:?}");
+            assert!(
+                ran.out.contains(&format!("bogslipper {report} FILE")),
+                "{words:?}"
+            );
         }
     }
     trouble(&[], "bogslipper twcc FILE");
@@ -44,10 +51,16 @@ fn words_that_are_not_known() {
 #[test]
 fn files_that_cannot_be_read() {
     for report in REPORTS {
-        trouble(&[report, "no/such/file"], "no/such/file: No such file or directory");
+        trouble(
+            &[report, "no/such/file"],
+            "no/such/file: No such file or directory",
+        );
         trouble(&[report, "."], ".: Is a directory");
         trouble(&[report, ""], "No such file or directory");
-        trouble(&[report, "/dev/zero"], "/dev/zero: larger than 262144 bytes");
+        trouble(
+            &[report, "/dev/zero"],
+            "/dev/zero: larger than 262144 bytes",
+        );
         trouble(&[report, "--hex", "."], ".: Is a directory");
     }
 }

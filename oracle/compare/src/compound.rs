@@ -6,6 +6,7 @@ use rtcp_types::{Compound, Packet, RtcpWriteError, Unknown, UnknownBuilder};
 
 use crate::case::{any_bytes, read_only, refused_reading, Book, Effort, Expected, Lent, Seen};
 use crate::record::{Case, Memory};
+use crate::traffic;
 
 pub fn compare(effort: &Effort) -> Vec<Book> {
     let mut readers = Readers {
@@ -207,21 +208,30 @@ fn whole_compound(random: &mut Random, packets: usize) -> (Vec<u8>, Vec<usize>) 
     (data, places)
 }
 
-/// Compounds of 1 to 60 packets, cut at every byte, with each bit of each header turned.
+/// Compounds of 1 to 60 packets and the datagrams of real senders, whole and damaged.
 fn read_damaged_compounds(readers: &mut Readers) {
     for packets in 1..=60 {
         let (data, places) = whole_compound(&mut readers.random, packets);
-        for length in 0..=data.len() {
-            readers.read(&data[..length]);
-            readers.step(&data[..length], places[packets / 2] as u64);
-        }
-        for place in places {
-            for bit in 0..32 {
-                let mut damaged = data.clone();
-                damaged[place + bit / 8] ^= 0x80 >> (bit % 8);
-                readers.read(&damaged);
-                readers.step(&damaged, place as u64);
-            }
+        read_damaged(readers, &data, &places);
+    }
+    for data in traffic::datagrams() {
+        readers.step_from_everywhere(&data);
+        read_damaged(readers, &data, &traffic::places(&data));
+    }
+}
+
+/// A compound cut at every byte, and with each bit of each header turned.
+fn read_damaged(readers: &mut Readers, data: &[u8], places: &[usize]) {
+    for length in 0..=data.len() {
+        readers.read(&data[..length]);
+        readers.step(&data[..length], places[places.len() / 2] as u64);
+    }
+    for &place in places {
+        for bit in 0..32 {
+            let mut damaged = data.to_vec();
+            damaged[place + bit / 8] ^= 0x80 >> (bit % 8);
+            readers.read(&damaged);
+            readers.step(&damaged, place as u64);
         }
     }
 }

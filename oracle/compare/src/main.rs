@@ -6,6 +6,7 @@ mod compound;
 mod header;
 mod nack;
 mod record;
+mod traffic;
 mod twcc_read;
 mod twcc_write;
 

@@ -8,6 +8,7 @@ use rtcp_types::{Nack, NackBuilder};
 
 use crate::case::{Book, Effort, Lent, Seen};
 use crate::record::{Case, Memory};
+use crate::traffic;
 
 /// The bytes of a store: one bit for each of the 65,536 numbers.
 const STORE: usize = 8_192;
@@ -141,6 +142,11 @@ fn compare_read(effort: &Effort) -> Book {
     for length in [4 * 3_856, 60_000, 65_535] {
         let data = random.bytes(length);
         read_rooms(&mut book, random, &data);
+    }
+    for block in traffic::blocks(1) {
+        for length in 0..=block.len() {
+            read_rooms(&mut book, random, &block[..length]);
+        }
     }
     book
 }

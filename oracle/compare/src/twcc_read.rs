@@ -6,6 +6,7 @@ use rtcp_types::{RtcpParseError, Twcc, TwccPacketStatus};
 
 use crate::case::{refused_reading, Book, Effort, Lent, Seen};
 use crate::record::{Case, Memory};
+use crate::traffic;
 
 /// The words of a status list that are no deltas.
 pub const NOT_RECEIVED: i32 = 32_768;
@@ -25,6 +26,7 @@ pub fn compare(effort: &Effort) -> Vec<Book> {
     reader.read_random_blocks(effort);
     reader.read_cut_blocks(effort);
     reader.read_long_blocks();
+    reader.read_traffic();
     vec![reader.book]
 }
 
@@ -179,10 +181,27 @@ impl Reader {
             let count = (most + 2).saturating_sub(self.random.below(9)) as u16;
             let tail = self.random.below(2 * most + 3) as usize;
             let block = self.block(count, &chunks, tail);
-            self.read_rooms(&block);
-            for length in 0..block.len() {
-                self.read_nearly(&block[..length]);
+            self.read_cut(&block);
+        }
+    }
+
+    /// The blocks of real senders, cut at every byte, and with each bit turned.
+    fn read_traffic(&mut self) {
+        for block in traffic::blocks(15) {
+            self.read_cut(&block);
+            for bit in 0..8 * block.len() {
+                let mut damaged = block.clone();
+                damaged[bit / 8] ^= 0x80 >> (bit % 8);
+                self.read_rooms(&damaged);
             }
+        }
+    }
+
+    /// A block cut at every byte.
+    fn read_cut(&mut self, block: &[u8]) {
+        self.read_rooms(block);
+        for length in 0..block.len() {
+            self.read_nearly(&block[..length]);
         }
     }
 
