@@ -4,6 +4,7 @@ use std::fs::File;
 use std::io::{Read, Write};
 use std::path::{Path, PathBuf};
 use std::process::{Command, Stdio};
+use std::sync::Once;
 use std::thread;
 use std::time::{Duration, Instant};
 
@@ -35,6 +36,20 @@ pub fn sample(name: &str) -> String {
         .to_string()
 }
 
+/// The first use of the command may build it, which takes longer than any report.
+static BUILT: Once = Once::new();
+
+fn build() {
+    let status = Command::new(root().join("bogslipper"))
+        .arg("help")
+        .stdout(Stdio::null())
+        .status();
+    assert!(
+        status.expect("./bogslipper starts").success(),
+        "./bogslipper is built"
+    );
+}
+
 /// The command's answer to these words.
 pub fn bogslipper(words: &[&str]) -> Ran {
     with_input(words, b"")
@@ -42,6 +57,7 @@ pub fn bogslipper(words: &[&str]) -> Ran {
 
 /// The command's answer to these words, with this standard input.
 pub fn with_input(words: &[&str], input: &[u8]) -> Ran {
+    BUILT.call_once(build);
     let mut child = Command::new(root().join("bogslipper"))
         .args(words)
         .stdin(Stdio::piped())

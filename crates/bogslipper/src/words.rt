@@ -8,55 +8,93 @@ use refusal::Told;
 // "refused 15: output lacks room: 8 needed, 4 present": the number, what it means, and its values.
 pub fn refused(line: &mut [u8; LONGEST], at: usize, r: Refusal) -> usize {
     let told = refusal::tell(r);
-    let number = told.number;
-    let p = line::labelled(line, at, b"refused ", number);
+    let p = line::labelled(line, at, b"refused ", told.number);
     let p = line::text(line, p, b": ");
+    if told.number < 8 {
+        return on_reading(line, p, told);
+    }
+    if told.number < 12 {
+        return on_a_packet(line, p, told);
+    }
+    on_a_list(line, p, told)
+}
+
+// Refusals 1 to 5.
+fn on_reading(line: &mut [u8; LONGEST], at: usize, told: Told) -> usize {
+    let number = told.number;
     match number {
         1 => pair(
             line,
-            p,
+            at,
             told,
             b"bytes too short: ",
             b" expected, ",
             b" present",
         ),
-        2 => one(line, p, told, b"version ", b" where 2 is expected"),
-        3 => pair(line, p, told, b"packet type ", b" where ", b" is requested"),
+        2 => one(line, at, told, b"version ", b" where 2 is expected"),
+        3 => pair(
+            line,
+            at,
+            told,
+            b"packet type ",
+            b" where ",
+            b" is requested",
+        ),
         4 => pair(
             line,
-            p,
+            at,
             told,
             b"bytes too many: ",
             b" expected, ",
             b" present",
         ),
-        5 => line::text(
+        _ => line::text(
             line,
-            p,
+            at,
             b"padding with a count of 0 or before the last packet",
         ),
-        8 => one(line, p, told, b"count ", b" is above 31"),
+    }
+}
+
+// Refusals 8 to 11.
+fn on_a_packet(line: &mut [u8; LONGEST], at: usize, told: Told) -> usize {
+    let number = told.number;
+    match number {
+        8 => one(line, at, told, b"count ", b" is above 31"),
         9 => one(
             line,
-            p,
+            at,
             told,
             b"padding of ",
             b" bytes is not a multiple of 4",
         ),
-        10 => one(line, p, told, b"reference time ", b" is above 16777215"),
-        11 => one(
+        10 => one(line, at, told, b"reference time ", b" is above 16777215"),
+        _ => one(
             line,
-            p,
+            at,
             told,
             b"body of ",
             b" bytes is not a multiple of 4 or makes a packet above 262144 bytes",
         ),
-        12 => one(line, p, told, b"status word at place ", b" is out of range"),
-        13 => one(line, p, told, b"list of ", b" entries is above 16384"),
-        14 => one(line, p, told, b"size limit ", b" is below 8"),
+    }
+}
+
+// Refusals 12 to 17.
+fn on_a_list(line: &mut [u8; LONGEST], at: usize, told: Told) -> usize {
+    let number = told.number;
+    match number {
+        12 => one(
+            line,
+            at,
+            told,
+            b"status word at place ",
+            b" is out of range",
+        ),
+        13 => one(line, at, told, b"list of ", b" entries is above 16384"),
+        14 => one(line, at, told, b"size limit ", b" is below 8"),
         15 => pair(
             line,
-            p,
+            at,
             told,
             b"output lacks room: ",
             b" needed, ",
@@ -64,12 +102,12 @@ pub fn refused(line: &mut [u8; LONGEST], at: usize, r: Refusal) -> usize {
         ),
         16 => one(
             line,
-            p,
+            at,
             told,
             b"NACK store of ",
             b" bytes is not 8192 bytes",
         ),
-        _ => one(line, p, told, b"least length ", b" is outside 4 to 262144"),
+        _ => one(line, at, told, b"least length ", b" is outside 4 to 262144"),
     }
 }
 

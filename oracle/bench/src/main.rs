@@ -73,14 +73,14 @@ fn all_rows() -> impl Iterator<Item = Row> {
 }
 
 fn measure((name, rows): &Part) {
-    println!("| {name} | ours, ns | Rust, ns | ours / Rust |");
+    println!("| {name} | ours, ns | Rust, ns | times as quick |");
     println!("|---|---:|---:|---:|");
     for row in rows() {
         let (ours, rust) = row.measure();
         println!(
             "| {} | {ours:.1} | {rust:.1} | {:.2} |",
             row.name,
-            ours / rust
+            rust / ours
         );
     }
     println!();
