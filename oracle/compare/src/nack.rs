@@ -30,11 +30,11 @@ fn store_of(numbers: &[u16]) -> Vec<u8> {
     store
 }
 
-/// Lent bytes of any length with a few bits set.
+/// Lent bytes of any length, with the bits of a few numbers set.
 fn store_of_length(random: &mut Random, length: usize) -> Lent<u8> {
     let mut store = vec![0; length];
     for _ in 0..random.below(8).min(length as u64) {
-        let place = random.below(length as u64) as usize;
+        let place = random.below(length.min(STORE) as u64) as usize;
         store[place] |= 1 << random.below(8);
     }
     Lent::holding(random, &store)

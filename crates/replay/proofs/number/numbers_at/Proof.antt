@@ -1,0 +1,56 @@
+-- The list keeps its six places.
+use Prim.Native.Nat.{_-_}
+use mathlib.Core.Path.{_≡_}
+use lib.ListN.{length}
+use borrow.Author.Needs.{needs}
+use Rattle.replay.proofs.number.numbers_at.Statement.{statement}
+use Rattle.replay.proofs.number.numbers_at.Tie as tie
+
+abbrev Inv-loop : tie.InvT-loop
+Inv-loop s from list₀ count₀ at₀ list count at = length list ≡ 6
+
+abbrev μ-loop : tie.MeasureT-loop
+μ-loop s from list₀ count₀ at₀ list count at = 6 - count
+
+loop-holds : tie.Need-loop-holds Inv-loop μ-loop
+loop-holds c = search needs
+
+spaced-number-at-requires : tie.Need-spaced-number-at-requires Inv-loop μ-loop
+spaced-number-at-requires c κs = search needs
+
+mul-list : tie.Need-mul-list Inv-loop μ-loop
+mul-list c = search needs
+
+array-write-list : tie.Need-array-write-list Inv-loop μ-loop
+array-write-list c = search needs
+
+add-count : tie.Need-add-count Inv-loop μ-loop
+add-count c = search needs
+
+loop-less : tie.Need-loop-less Inv-loop μ-loop
+loop-less c = search needs
+
+loop-again : tie.Need-loop-again Inv-loop μ-loop
+loop-again c = search needs
+
+returns : tie.Need-returns Inv-loop μ-loop
+returns c = search needs
+
+returns-2 : tie.Need-returns-2 Inv-loop μ-loop
+returns-2 c = search needs
+
+pub numbers-at-spec : {M : Type 1} → statement M
+numbers-at-spec =
+    tie.close
+    (tie.spec
+    Inv-loop
+    μ-loop
+    loop-holds
+    spaced-number-at-requires
+    mul-list
+    array-write-list
+    add-count
+    loop-less
+    loop-again
+    returns
+    returns-2)
