@@ -52,43 +52,45 @@ fn answer(asked: Asked) -> u8 {
     let mut word = io::buffer();
     let n = os::arg(asked.command, &mut word);
     match named(&word[..n]) {
-        Report::Help => {
+        Command::About(report) => about(asked, report),
+        Command::Help => {
             help::write(STDOUT_FILENO);
             ANSWERED
         }
-        Report::None => {
+        Command::None => {
             ask::complain(b"no such command", &word[..n]);
             help::hint();
             TROUBLE
         }
-        Report::Compound => about(asked, Report::Compound),
-        Report::Nack => about(asked, Report::Nack),
-        Report::Twcc => about(asked, Report::Twcc),
     }
 }
 
 enum Report {
-    None,
-    Help,
     Compound,
     Nack,
     Twcc,
 }
 
-fn named(word: &[u8]) -> Report {
+enum Command {
+    About(Report),
+    Help,
+    None,
+}
+
+fn named(word: &[u8]) -> Command {
     if ask::same(word, b"compound") {
-        return Report::Compound;
+        return Command::About(Report::Compound);
     }
     if ask::same(word, b"nack") {
-        return Report::Nack;
+        return Command::About(Report::Nack);
     }
     if ask::same(word, b"twcc") {
-        return Report::Twcc;
+        return Command::About(Report::Twcc);
     }
     if ask::same(word, b"help") {
-        return Report::Help;
+        return Command::Help;
     }
-    Report::None
+    Command::None
 }
 
 // A report on the file that is asked for.
@@ -149,8 +151,6 @@ fn print(report: Report, bytes: &[u8]) -> u8 {
         Report::Compound => packets::report(bytes),
         Report::Nack => numbers::report(bytes),
         Report::Twcc => entries::report(bytes),
-        Report::Help => true,
-        Report::None => true,
     };
     if fine { ANSWERED } else { REFUSED }
 }
