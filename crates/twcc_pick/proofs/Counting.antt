@@ -1,35 +1,73 @@
--- A loop that counts the symbols at the front that pass a test: n so far, and those that the rest still has.
-use Prim.Native.Nat.{ℕ, _+_, _≤_, _<_, min}
-use mathlib.Core.Path.{_≡_}
-use mathlib.Core.List.{List, map}
-use mathlib.Core.Bool.{Bool, true, false}
+-- Loops that count what passes a test at the front of a list: one element at a time, or a block of them without a jump.
+use Prim.Native.Nat.{ℕ, zero, suc, _+_, _≤_, _<_, min}
+use mathlib.Core.Path.{_≡_, ap, _∙_}
+use mathlib.Core.List.{List, [], _∷_}
+use mathlib.Core.Bool.{Bool, true, false, cond}
 use native.Mathlib.Numerals.{add-one}
 use native.Mathlib.Omega.{arith}
-use lib.IntN.{ℤ}
-use lib.ListN.{length, drop, getD, length-map}
-use Rattle.twcc.specs.Words.{symbolOf}
-use Rattle.twcc_plan.specs.Front.{front, front-le, front-yes, front-no}
+use lib.ListN.{length, drop, getD}
+use lib.Seq.{drop-drop}
+use Rattle.twcc.specs.Written.{by-test}
+use Rattle.twcc_plan.specs.Front.{front, front-le, front-yes, front-no, front-end}
+use Rattle.twcc_pick.specs.Counting.{Counting}
 
-pub record Counting (p : ℕ → Bool) (rest : List ℤ) (end n : ℕ) : Type 0 where
-  pub within : n ≤ end
-  pub counted : front p (map symbolOf rest) ≡ n + front p (drop n (map symbolOf rest))
+pub front-skip : {A : Type 0} (p : A → Bool) (n : ℕ) (xs : List A) → n ≤ front p xs → front p xs ≡ n + front p (drop n xs)
+unfolding front
+front-skip p zero xs run = omega arith
+front-skip p (suc n) [] run = absurd (omega arith)
+front-skip p (suc n) (x ∷ xs) run =
+    by-test (p x)
+    (λ e. let all : suc n ≤ suc (front p xs) = rw e at run in rw e (omega (arith, front-skip p n xs (omega arith))))
+    (λ e. absurd (let none : suc n ≤ 0 = rw e at run in omega arith))
 
-module _ (p : ℕ → Bool) (rest : List ℤ) where
-  pub counting-start : (end : ℕ) → Counting p rest end 0
+module _ {A : Type 0} (p : A → Bool) (xs : List A) where
+  -- ---- one at a time
+
+  pub counting-start : (end : ℕ) → Counting p xs end 0
   counting-start end = record { within = omega arith; counted = omega arith }
 
-  module _ (cap end n : ℕ) (ends : end ≡ min cap (length rest)) (c : Counting p rest end n) where
-    pub counting-over : end ≤ n → n ≡ min cap (front p (map symbolOf rest))
-    counting-over over = omega (arith, front-le p (map symbolOf rest), length-map rest symbolOf, c .counted, c .within)
+  module _ {end n : ℕ} (c : Counting p xs end n) where
+    pub counting-over : end ≡ length xs → end ≤ n → n ≡ front p xs
+    counting-over ends over = omega (arith, c .counted, front-le p xs, front-end p xs n (omega arith))
 
-    module _ (more : n < end) where
-      inside : n < length (map symbolOf rest)
-      inside = omega (arith, length-map rest symbolOf)
+    pub counting-cap : (cap : ℕ) → end ≡ min cap (length xs) → end ≤ n → n ≡ min cap (front p xs)
+    counting-cap cap ends over = omega (arith, front-le p xs, c .counted, c .within)
 
-      pub counting-turn : p (getD (map symbolOf rest) n 0) ≡ true → Counting p rest end (n + 1)
-      counting-turn passes =
-          let one = front-yes p (map symbolOf rest) n 0 inside passes in
+    module _ (d : A) (inside : n < length xs) where
+      pub counting-turn : n < end → p (getD xs n d) ≡ true → Counting p xs end (n + 1)
+      counting-turn more passes =
+          let one = front-yes p xs n d inside passes in
           record { within = omega arith; counted = rw (add-one n) (omega (arith, one, c .counted)) }
 
-      pub counting-stop : p (getD (map symbolOf rest) n 0) ≡ false → n ≡ min cap (front p (map symbolOf rest))
-      counting-stop fails = let none = front-no p (map symbolOf rest) n 0 inside fails in omega (arith, none, c .counted, c .within)
+      pub counting-stop : p (getD xs n d) ≡ false → n ≡ front p xs
+      counting-stop fails = let none = front-no p xs n d inside fails in omega (arith, none, c .counted)
+
+    -- a whole block more
+    pub counting-block : (block : ℕ) → n + block ≤ end → block ≤ front p (drop n xs) → Counting p xs end (n + block)
+    counting-block block room all =
+        let skip = front-skip p block (drop n xs) all ∙ ap (λ (l : List A). block + front p l) (drop-drop block n xs) in
+        record { within = room; counted = omega (arith, skip, c .counted) }
+
+-- ---- a block from a place on, without a jump: what misses is counted
+
+pub record Missing {A : Type 0} (p : A → Bool) (xs : List A) (at block n missed : ℕ) : Type 0 where
+  pub within : n ≤ block
+  pub few : missed ≤ n
+  pub passed : missed ≡ 0 → front p (drop at xs) ≡ n + front p (drop (at + n) xs)
+
+module _ {A : Type 0} (p : A → Bool) (xs : List A) (at : ℕ) where
+  pub missing-start : (block : ℕ) → Missing p xs at block 0 0
+  missing-start block = record { within = omega arith; few = omega arith; passed = λ none. let here : at + 0 ≡ at = omega arith in rw here (omega arith) }
+
+  module _ {block n missed : ℕ} (m : Missing p xs at block n missed) where
+    pub missing-turn : (d : A) (one : ℕ) → at + block ≤ length xs → n < block → one ≡ cond (p (getD xs (at + n) d)) 0 1 → Missing p xs at block (n + 1) (missed + one)
+    missing-turn d one room more is =
+        by-test (p (getD xs (at + n) d))
+        (λ e.
+        let none : one ≡ 0 = is ∙ (rw e) in
+        let next : at + (n + 1) ≡ suc (at + n) = omega arith in
+        record { within = omega arith; few = omega (arith, m .few); passed = λ all. rw next (omega (arith, m .passed (omega arith), front-yes p xs (at + n) d (omega arith) e)) })
+        (λ e. let some : one ≡ 1 = is ∙ (rw e) in record { within = omega arith; few = omega (arith, m .few); passed = λ all. absurd (omega arith) })
+
+    pub missing-over : block ≤ n → missed ≡ 0 → block ≤ front p (drop at xs)
+    missing-over over none = omega (arith, m .passed none, m .within)

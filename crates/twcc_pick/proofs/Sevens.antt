@@ -18,9 +18,9 @@ use Rattle.twcc.specs.Written.{by-test}
 use Rattle.twcc_plan.specs.Front.{front}
 use Rattle.twcc_plan.specs.Choice.{runOf, oneBit, onesOf, isRun, isOne, chunkFor}
 use Rattle.twcc_plan.specs.PlanLaws.{front-run}
-use Rattle.twcc_pick.specs.Picked.{picked, Places, vectorOf, twosIn, Sevens}
-use Rattle.twcc_pick.specs.declared.Picked.{Picked}
+use Rattle.twcc_pick.specs.Picked.{picked, Places, vectorOf, twosIn, Sevens, twoOf, oneOf}
 use Rattle.twcc_pick.specs.declared.Seven.{Seven}
+use Rattle.twcc_pick.proofs.Counting.{front-skip}
 use Rattle.twcc_pick.proofs.Packing.{Packing, packing-start, packing-fits, packing-turn, packing-over}
 use Rattle.twcc_pick.proofs.Choosing.{pack-take, picks-one, picks-two}
 
@@ -79,7 +79,7 @@ module _ {ss : List ℕ} {two one width twos n : ℕ} (g : Gathering ss two one 
         one = slim .0;
         width = wide .1;
         twos = omega (arith, counted);
-        small = (packing-fits four ss (g .wide), packing-fits both ss (g .slim), omega (arith, g .wide .light, g .wide .within));
+        small = record { two = packing-fits four ss (g .wide); one = packing-fits both ss (g .slim); width = omega (arith, g .wide .light, g .wide .within) };
       }
 
 -- ---- what is not all equal is no run
@@ -123,15 +123,6 @@ some-two (suc n) (s ∷ ss) some =
     (λ e. rw e (omega (arith, some-two n ss (omega (arith, ltb-true s 2 e)))))
     (λ e. rw e (omega arith))
 
-front-skip : (p : ℕ → Bool) (n : ℕ) (ss : List ℕ) → n ≤ front p ss → front p ss ≡ n + front p (drop n ss)
-unfolding front
-front-skip p zero ss run = omega arith
-front-skip p (suc n) [] run = absurd (omega arith)
-front-skip p (suc n) (s ∷ ss) run =
-    by-test (p s)
-    (λ e. let all : suc n ≤ suc (front p ss) = rw e at run in rw e (omega (arith, front-skip p n ss (omega arith))))
-    (λ e. absurd (let none : suc n ≤ 0 = rw e at run in omega arith))
-
 and-false : (a : Bool) → a && false ≡ false
 and-false true = refl
 and-false false = refl
@@ -153,17 +144,17 @@ module _ (ss : List ℕ) (below : Below 3 ss) (long : 14 ≤ length ss) (a : Sev
   not-run : isRun (runOf ss) (onesOf ss) ≡ false
   not-run = no-run (runOf ss) (onesOf ss) (unlike ss below (omega arith) (λ same. differs (rw (first .two) same)))
 
-  two-is : onesOf ss < 14 → _≡_ {A = Picked} (record { word = 49152 + a .two; count = 7; width = a .width }) (picked (chunkFor ss))
+  two-is : onesOf ss < 14 → twoOf a ≡ picked (chunkFor ss)
   unfolding vectorOf
   two-is few =
       let count : 7 ≡ min 7 (length ss) = omega arith in
       let word = first .two in
       let width = first .width in
-      let vector : _≡_ {A = Picked} (record { word = 49152 + a .two; count = 7; width = a .width }) (vectorOf 4 7 49152 ss) = cc in
+      let vector : twoOf a ≡ vectorOf 4 7 49152 ss = cc in
       vector ∙ picks-two ss _ _ refl refl not-run (no-one (onesOf ss) (length ss) few (omega arith))
 
   -- a 2 among the first seven
-  pub two-early : zero < a .twos → _≡_ {A = Picked} (record { word = 49152 + a .two; count = 7; width = a .width }) (picked (chunkFor ss))
+  pub two-early : zero < a .twos → twoOf a ≡ picked (chunkFor ss)
   unfolding onesOf
   two-early some = let few = some-two 7 ss (rw (first .twos) at some) in two-is (omega arith)
 
@@ -172,12 +163,12 @@ module _ (ss : List ℕ) (below : Below 3 ss) (long : 14 ≤ length ss) (a : Sev
     ahead = front-skip oneBit 7 ss (none-two 7 ss (omega arith) (sym (first .twos) ∙ none))
 
     -- a 2 among the next seven
-    pub two-late : zero < b .twos → _≡_ {A = Picked} (record { word = 49152 + a .two; count = 7; width = a .width }) (picked (chunkFor ss))
+    pub two-late : zero < b .twos → twoOf a ≡ picked (chunkFor ss)
     unfolding onesOf
     two-late some = let few = some-two 7 (drop 7 ss) (rw (second .twos) at some) in two-is (omega (arith, ahead))
 
     -- none
-    pub one-whole : b .twos ≡ 0 → _≡_ {A = Picked} (record { word = 32768 + a .one * 128 + b .one; count = 14; width = a .width + b .width }) (picked (chunkFor ss))
+    pub one-whole : b .twos ≡ 0 → oneOf a b ≡ picked (chunkFor ss)
     unfolding vectorOf onesOf
     one-whole none-more =
         let more = none-two 7 (drop 7 ss) (simp length-drop (omega arith)) (sym (second .twos) ∙ none-more) in
@@ -187,5 +178,5 @@ module _ (ss : List ℕ) (below : Below 3 ss) (long : 14 ≤ length ss) (a : Sev
         let count : 14 ≡ min 14 (length ss) = omega arith in
         let wide = ap widthOf (take-add 7 7 ss) ∙ width-append (take 7 ss) (take 7 (drop 7 ss)) in
         let width : a .width + b .width ≡ widthOf (take 14 ss) = omega (arith, wide, first .width, second .width) in
-        let vector : _≡_ {A = Picked} (record { word = 32768 + a .one * 128 + b .one; count = 14; width = a .width + b .width }) (vectorOf 2 14 32768 ss) = cc in
+        let vector : oneOf a b ≡ vectorOf 2 14 32768 ss = cc in
         vector ∙ picks-one ss _ _ refl refl not-run one

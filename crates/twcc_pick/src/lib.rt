@@ -1,13 +1,17 @@
 // What a TWCC block writer sees in its list: the first word that can't be written, and the chunk picked for what remains.
 ghost use mathlib.Core.Path.{_≡_};
 ghost use mathlib.Core.List.{map};
+ghost use mathlib.Core.Bool.{cond};
 ghost use Prim.Native.Nat.{_+_, _≤_, _<_, min};
+ghost use lib.Dec.{eqb};
 ghost use lib.IntN.{pos};
 ghost use lib.ListN.{length, getD, drop};
 ghost use Rattle.twcc.specs.Words.{symbolOf};
+ghost use Rattle.twcc_plan.specs.Front.{front};
 ghost use Rattle.twcc_plan.specs.Block.{inRange, firstBad};
 ghost use Rattle.twcc_plan.specs.Choice.{runOf, onesOf, isRun, isOne, chunkFor};
-ghost use Rattle.twcc_pick.specs.Picked.{picked, Places, vectorOf, Sevens};
+ghost use Rattle.twcc_pick.specs.Counting.{Counting};
+ghost use Rattle.twcc_pick.specs.Picked.{picked, Places, vectorOf, Slight, Sevens, twoOf, oneOf};
 
 // The longest run that one chunk holds.
 const LONGEST_RUN: usize = 8191;
@@ -19,16 +23,16 @@ pub struct Picked {
     pub width: usize,
 }
 
-fn symbol(word: i32) -> usize
+fn symbol(word: i32) -> u32
     ensures { λ r. ⌜ (r ≡ symbolOf word) × (r ≤ 2) ⌝ }
 {
-    let delta: usize = if 255 < word { 2 } else { 1 };
-    let received: usize = if word < 0 { 2 } else { delta };
+    let delta: u32 = if 255 < word { 2 } else { 1 };
+    let received: u32 = if word < 0 { 2 } else { delta };
     if 32767 < word { 0 } else { received }
 }
 
-// The symbol at a place of the list.
-fn symbol_in(list: &[i32], at: usize) -> usize
+// The symbol at a place of the list. Symbols are counted in 32 bits, so that four go into a vector.
+fn symbol_in(list: &[i32], at: usize) -> u32
     requires { ⌜ at < length (now list) ⌝ }
     ensures { λ r. ⌜ (r ≡ getD (map symbolOf (now (list .entry))) at 0) × (r ≤ 2) ⌝ }
 {
@@ -36,7 +40,7 @@ fn symbol_in(list: &[i32], at: usize) -> usize
 }
 
 // The symbol at a place, 0 past the end.
-pub fn symbol_at(list: &[i32], at: usize) -> usize
+fn symbol_or_lost(list: &[i32], at: usize) -> u32
     ensures { λ r. ⌜ (r ≡ getD (map symbolOf (now (list .entry))) at 0) × (r ≤ 2) ⌝ }
 {
     if at < list.len() {
@@ -46,26 +50,83 @@ pub fn symbol_at(list: &[i32], at: usize) -> usize
     }
 }
 
+fn wide(x: u32) -> usize
+    ensures { λ r. ⌜ r ≡ x ⌝ }
+{
+    x as usize
+}
+
+// The same as a size.
+pub fn symbol_at(list: &[i32], at: usize) -> usize
+    ensures { λ r. ⌜ (r ≡ getD (map symbolOf (now (list .entry))) at 0) × (r ≤ 2) ⌝ }
+{
+    wide(symbol_or_lost(list, at))
+}
+
 fn lesser(a: usize, b: usize) -> usize
     ensures { λ r. ⌜ r ≡ min a b ⌝ }
 {
     if a < b { a } else { b }
 }
 
-// The run of equal symbols from the front.
-fn run_length(rest: &[i32]) -> usize
-    ensures { λ r. ⌜ r ≡ runOf (map symbolOf (now (rest .entry))) ⌝ }
+// 1 where another symbol than the first stands.
+fn miss_at(rest: &[i32], at: usize, first: u32) -> u32
+    requires { ⌜ at < length (now rest) ⌝ }
+    ensures { λ r. ⌜ (r ≡ cond (eqb first (getD (map symbolOf (now (rest .entry))) at 0)) 0 1) × (r ≤ 1) ⌝ }
 {
-    let first = symbol_at(rest, 0);
-    let end = lesser(LONGEST_RUN, rest.len());
+    if first == symbol_in(rest, at) { 0 } else { 1 }
+}
+
+// How many of the 32 symbols from a place on are not the first, without a jump: 0 for a run that goes on.
+fn misses(rest: &[i32], at: usize, first: u32) -> u32
+    requires { ⌜ at + 32 ≤ length (now rest) ⌝ }
+    ensures { λ r. ⌜ (r ≡ 0 → 32 ≤ front (eqb first) (drop at (map symbolOf (now (rest .entry))))) ⌝ }
+{
+    let mut missed: u32 = 0;
     let mut n: usize = 0;
+    while n < 32 {
+        missed = missed + miss_at(rest, at + n, first);
+        n = n + 1;
+    }
+    missed
+}
+
+// The run up to `end` as far as whole blocks of 32 symbols go, where it is known up to `from`.
+fn run_blocks(rest: &[i32], first: u32, from: usize, end: usize) -> usize
+    requires { ⌜ (end ≤ length (now rest)) × (Counting (eqb first) (map symbolOf (now rest)) end from) ⌝ }
+    ensures { λ r. ⌜ Counting (eqb first) (map symbolOf (now (rest .entry))) end r ⌝ }
+{
+    let mut n = from;
+    while 32 <= end - n {
+        if misses(rest, n, first) != 0 {
+            return n;
+        }
+        n = n + 32;
+    }
+    n
+}
+
+// The run of a symbol from the front, where it is known up to `from`.
+fn run_from(rest: &[i32], first: u32, from: usize) -> usize
+    requires { ⌜ Counting (eqb first) (map symbolOf (now rest)) (min 8191 (length (now rest))) from ⌝ }
+    ensures { λ r. ⌜ r ≡ min 8191 (front (eqb first) (map symbolOf (now (rest .entry)))) ⌝ }
+{
+    let end = lesser(LONGEST_RUN, rest.len());
+    let mut n = run_blocks(rest, first, from, end);
     while n < end {
-        if symbol_at(rest, n) != first {
+        if symbol_in(rest, n) != first {
             return n;
         }
         n = n + 1;
     }
     n
+}
+
+// The run of equal symbols from the front.
+fn run_length(rest: &[i32]) -> usize
+    ensures { λ r. ⌜ r ≡ runOf (map symbolOf (now (rest .entry))) ⌝ }
+{
+    run_from(rest, symbol_or_lost(rest, 0), 0)
 }
 
 // The entries at the front with symbol 0 or 1, at most 14.
@@ -138,20 +199,20 @@ fn pick_counted(rest: &[i32]) -> Picked
 
 // Seven symbols as two-bit and as one-bit digits, their delta bytes, and how many of them are 2.
 pub struct Seven {
-    pub two: usize,
-    pub one: usize,
-    pub width: usize,
-    pub twos: usize,
+    pub two: u32,
+    pub one: u32,
+    pub width: u32,
+    pub twos: u32,
 }
 
 fn gather(rest: &[i32], at: usize) -> Seven
     requires { ⌜ at + 7 ≤ length (now rest) ⌝ }
     ensures { λ r. ⌜ Sevens (drop at (map symbolOf (now (rest .entry)))) r ⌝ }
 {
-    let mut two: usize = 0;
-    let mut one: usize = 0;
-    let mut width: usize = 0;
-    let mut twos: usize = 0;
+    let mut two: u32 = 0;
+    let mut one: u32 = 0;
+    let mut width: u32 = 0;
+    let mut twos: u32 = 0;
     let mut n: usize = 0;
     while n < 7 {
         let symbol = symbol_in(rest, at + n);
@@ -169,6 +230,30 @@ fn gather(rest: &[i32], at: usize) -> Seven
     }
 }
 
+// A two-bit vector of seven symbols.
+fn two_picked(a: Seven) -> Picked
+    requires { ⌜ a .two ≤ 32768 ⌝ }
+    ensures { λ r. ⌜ r ≡ twoOf a ⌝ }
+{
+    Picked {
+        word: wide(49152 + a.two),
+        count: 7,
+        width: wide(a.width),
+    }
+}
+
+// A one-bit vector of twice seven symbols.
+fn one_picked(a: Seven, b: Seven) -> Picked
+    requires { ⌜ (Slight a) × (Slight b) ⌝ }
+    ensures { λ r. ⌜ r ≡ oneOf a b ⌝ }
+{
+    Picked {
+        word: wide(32768 + a.one * 128 + b.one),
+        count: 14,
+        width: wide(a.width + b.width),
+    }
+}
+
 // The chunk for what remains. Seven symbols that are not all equal make no run, and a 2 among the first fourteen settles
 // which vector it is.
 pub fn pick(rest: &[i32]) -> Picked
@@ -183,25 +268,13 @@ pub fn pick(rest: &[i32]) -> Picked
         return pick_counted(rest);
     }
     if 0 < a.twos {
-        return Picked {
-            word: 49152 + two,
-            count: 7,
-            width: a.width,
-        };
+        return two_picked(a);
     }
     let b = gather(rest, 7);
     if 0 < b.twos {
-        return Picked {
-            word: 49152 + two,
-            count: 7,
-            width: a.width,
-        };
+        return two_picked(a);
     }
-    Picked {
-        word: 32768 + a.one * 128 + b.one,
-        count: 14,
-        width: a.width + b.width,
-    }
+    one_picked(a, b)
 }
 
 fn in_range(word: i32) -> bool
@@ -220,11 +293,47 @@ fn fine_at(list: &[i32], at: usize) -> bool
     in_range(list[at])
 }
 
+// 1 for a word out of range.
+fn outside_at(list: &[i32], at: usize) -> u32
+    requires { ⌜ at < length (now list) ⌝ }
+    ensures { λ r. ⌜ (r ≡ cond (inRange (getD (now (list .entry)) at (pos 0))) 0 1) × (r ≤ 1) ⌝ }
+{
+    if fine_at(list, at) { 0 } else { 1 }
+}
+
+// How many of the 128 words from a place on are out of range, without a jump.
+fn outside(list: &[i32], at: usize) -> u32
+    requires { ⌜ at + 128 ≤ length (now list) ⌝ }
+    ensures { λ r. ⌜ (r ≡ 0 → 128 ≤ front inRange (drop at (now (list .entry)))) ⌝ }
+{
+    let mut missed: u32 = 0;
+    let mut n: usize = 0;
+    while n < 128 {
+        missed = missed + outside_at(list, at + n);
+        n = n + 1;
+    }
+    missed
+}
+
+// The words in range at the front as far as whole blocks of 128 go.
+fn fine_blocks(list: &[i32]) -> usize
+    ensures { λ r. ⌜ Counting inRange (now (list .entry)) (length (now (list .entry))) r ⌝ }
+{
+    let mut n: usize = 0;
+    while 128 <= list.len() - n {
+        if outside(list, n) != 0 {
+            return n;
+        }
+        n = n + 128;
+    }
+    n
+}
+
 // The first place of a word out of range, or the list's length.
 pub fn first_bad(list: &[i32]) -> usize
     ensures { λ r. ⌜ r ≡ firstBad (now (list .entry)) ⌝ }
 {
-    let mut n: usize = 0;
+    let mut n = fine_blocks(list);
     while n < list.len() {
         if !fine_at(list, n) {
             return n;

@@ -3,14 +3,18 @@ use borrow.Author.Needs.{needs}
 use borrow.Author.Tests.{lt-ltb, le-ltb}
 use native.Mathlib.Omega.{arith}
 use Prim.Native.Nat.{_-_}
+use mathlib.Core.List.{map}
 use denote.Ref.{now}
+use lib.ListN.{length-map}
+use Rattle.twcc.specs.Words.{symbolOf}
 use Rattle.twcc_plan.specs.Choice.{oneBit, onesOf}
-use Rattle.twcc_pick.proofs.Counting.{Counting, counting-start, counting-turn, counting-stop, counting-over}
+use Rattle.twcc_pick.specs.Counting.{Counting}
+use Rattle.twcc_pick.proofs.Counting.{counting-start, counting-turn, counting-stop, counting-cap}
 use Rattle.twcc_pick.proofs.ones_length.Statement.{statement}
 use Rattle.twcc_pick.proofs.ones_length.Tie as tie
 
 abbrev Inv-loop : tie.InvT-loop
-Inv-loop rest end n₀ n = Counting oneBit rest end n
+Inv-loop rest end n₀ n = Counting oneBit (map symbolOf rest) end n
 
 abbrev μ-loop : tie.MeasureT-loop
 μ-loop rest end n₀ n = end - n
@@ -28,8 +32,10 @@ returns : tie.Need-returns Inv-loop μ-loop
 unfolding onesOf
 returns c =
     let l = c .before .before .before in
-    counting-stop oneBit (now (c .before .before .before .before .before .args .rest)) 14 _ _ (c .before .before .before .before .lesser .ensures) (l .loop .inv) (c .before .before .loop-test .taken)
-    (rw (← (c .before .symbol-at .ensures .0)) (le-ltb _ _ (c .if1 .taken)))
+    let rest = now (l .before .before .args .rest) in
+    let stop = counting-stop oneBit (map symbolOf rest) (l .loop .inv) 0 (rw length-map (omega (arith, c .before .before .loop-test .taken, l .before .lesser .ensures)))
+    (rw (← (c .before .symbol-at .ensures .0)) (le-ltb _ _ (c .if1 .taken))) in
+    omega (arith, stop, l .before .lesser .ensures, l .loop .inv .within)
 
 add-n : tie.Need-add-n Inv-loop μ-loop
 add-n c = search needs
@@ -40,12 +46,14 @@ loop-less c = search needs
 loop-again : tie.Need-loop-again Inv-loop μ-loop
 loop-again c =
     let l = c .before .before .before in
-    counting-turn oneBit (now (c .before .before .before .before .before .args .rest)) 14 _ _ (c .before .before .before .before .lesser .ensures) (l .loop .inv) (c .before .before .loop-test .taken)
+    counting-turn oneBit (map symbolOf (now (l .before .before .args .rest))) (l .loop .inv) 0 (rw length-map (omega (arith, c .before .before .loop-test .taken, l .before .lesser .ensures))) (c .before .before .loop-test .taken)
     (rw (← (c .before .symbol-at .ensures .0)) (lt-ltb (c .before .symbol-at .result) 2 (omega (arith, c .if1 .left))))
 
 returns-2 : tie.Need-returns-2 Inv-loop μ-loop
 unfolding onesOf
-returns-2 c = counting-over oneBit (now (c .before .before .before .args .rest)) 14 _ _ (c .before .before .lesser .ensures) (c .before .loop .inv) (c .loop-test .left)
+returns-2 c =
+    let rest = now (c .before .before .before .args .rest) in
+    counting-cap oneBit (map symbolOf rest) (c .before .loop .inv) 14 (rw length-map (c .before .before .lesser .ensures)) (c .loop-test .left)
 
 pub ones-length-spec : {M : Type 1} → statement M
 ones-length-spec =

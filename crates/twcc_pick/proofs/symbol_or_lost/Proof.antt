@@ -3,8 +3,8 @@ use borrow.Author.Needs.{needs}
 use native.Mathlib.Omega.{arith}
 use denote.Ref.{now}
 use Rattle.twcc_pick.proofs.Symbols.{symbol-past}
-use Rattle.twcc_pick.proofs.symbol_at.Statement.{statement}
-use Rattle.twcc_pick.proofs.symbol_at.Tie as tie
+use Rattle.twcc_pick.proofs.symbol_or_lost.Statement.{statement}
+use Rattle.twcc_pick.proofs.symbol_or_lost.Tie as tie
 
 symbol-in-requires : tie.Need-symbol-in-requires
 symbol-in-requires c κs = search needs
@@ -15,5 +15,5 @@ returns c = c .symbol-in .ensures
 returns-2 : tie.Need-returns-2
 returns-2 c = (symbol-past (now (c .before .args .list)) (c .before .args .at) (c .if1 .left), omega arith)
 
-pub symbol-at-spec : {M : Type 1} → statement M
-symbol-at-spec = tie.close (tie.spec symbol-in-requires returns returns-2)
+pub symbol-or-lost-spec : {M : Type 1} → statement M
+symbol-or-lost-spec = tie.close (tie.spec symbol-in-requires returns returns-2)
