@@ -1,5 +1,5 @@
 -- The symbol of a word, by the code's three tests, and the symbol at a place of a list.
-use Prim.Native.Nat.{ℕ, zero, suc, _≤_, _<_}
+use Prim.Native.Nat.{ℕ, zero, suc, _%_, _≤_, _<_}
 use mathlib.Core.Path.{_≡_, refl}
 use mathlib.Core.List.{List, [], _∷_, map}
 use mathlib.Core.Bool.{Bool, true, false, cond}
@@ -34,6 +34,20 @@ symbol-tested (pos n) =
     (λ f. let few = ltb-true n 32768 f in rw (le-ltb 32767 n (omega arith), positive, lt-ltb 255 n (omega arith), e, f))
     (λ f. let more = ltb-false n 32768 f in rw (lt-ltb 32767 n (omega arith), e, f)))
 symbol-tested (negsuc n) = refl
+
+-- whether it is 1, by two tests
+abbrev pub tested-small : ℤ → ℕ
+tested-small w = cond (ltZ w (pos 0)) 0 (cond (ltZ (pos 255) w) 0 1)
+
+pub small-tested : (w : ℤ) → tested-small w ≡ symbolOf w % 2
+unfolding symbolOf
+small-tested (pos n) =
+    let positive : ltb n 0 ≡ false = le-ltb n 0 (omega arith) in
+    by-test (ltb n 256)
+    (λ e. let few = ltb-true n 256 e in rw (positive, le-ltb 255 n (omega arith), e))
+    (λ e. let many = ltb-false n 256 e in
+    by-test (ltb n 32768) (λ f. rw (positive, lt-ltb 255 n (omega arith), e, f)) (λ f. rw (positive, lt-ltb 255 n (omega arith), e, f)))
+small-tested (negsuc n) = refl
 
 pub symbol-there : (list : List ℤ) (at : ℕ) (d : ℤ) → at < length list → symbolOf (getD list at d) ≡ getD (map symbolOf list) at 0
 symbol-there [] at d inside = absurd (not-suc-le-zero inside)

@@ -2,7 +2,7 @@
 ghost use mathlib.Core.Path.{_≡_};
 ghost use mathlib.Core.List.{map};
 ghost use mathlib.Core.Bool.{cond};
-ghost use Prim.Native.Nat.{_+_, _≤_, _<_, min};
+ghost use Prim.Native.Nat.{_+_, _%_, _≤_, _<_, min};
 ghost use lib.Dec.{eqb};
 ghost use lib.IntN.{pos};
 ghost use lib.ListN.{length, getD, drop};
@@ -32,11 +32,27 @@ fn symbol(word: i32) -> u32
 }
 
 // The symbol at a place of the list. Symbols are counted in 32 bits, so that four go into a vector.
-fn symbol_in(list: &[i32], at: usize) -> u32
+pub fn symbol_in(list: &[i32], at: usize) -> u32
     requires { ⌜ at < length (now list) ⌝ }
     ensures { λ r. ⌜ (r ≡ getD (map symbolOf (now (list .entry))) at 0) × (r ≤ 2) ⌝ }
 {
     symbol(list[at])
+}
+
+// 1 for a small delta, else 0.
+fn small(word: i32) -> u32
+    ensures { λ r. ⌜ r ≡ symbolOf word % 2 ⌝ }
+{
+    let few: u32 = if 255 < word { 0 } else { 1 };
+    if word < 0 { 0 } else { few }
+}
+
+// The same of the word at a place.
+pub fn small_in(list: &[i32], at: usize) -> u32
+    requires { ⌜ at < length (now list) ⌝ }
+    ensures { λ r. ⌜ r ≡ getD (map symbolOf (now (list .entry))) at 0 % 2 ⌝ }
+{
+    small(list[at])
 }
 
 // The symbol at a place, 0 past the end.

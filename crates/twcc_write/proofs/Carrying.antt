@@ -6,14 +6,14 @@ use mathlib.Core.Option.{none, some}
 use native.Mathlib.Nat.{sub-zero}
 use native.Mathlib.Omega.{arith}
 use lib.IntN.{ℤ}
-use lib.ListN.{length, getD, take, drop, replicate, length-append, length-drop, length-map}
-use lib.Seq.{sets, drop-drop}
+use lib.ListN.{length, getD, take, drop, replicate, length-append, length-take, length-drop, length-map}
+use lib.Seq.{sets, take-take, drop-drop}
 use Rattle.twcc.specs.Words.{symbolOf, deltas}
-use Rattle.twcc.specs.Chunks.{Chunk, Run, One, Two, chunkWord, standsFor}
+use Rattle.twcc.specs.Chunks.{Chunk, Run, One, Two, Below, chunkWord, standsFor}
 use Rattle.twcc.specs.Written.{symbols-lt, wordBytes}
 use Rattle.twcc_plan.specs.Choice.{takenBy, widthBy}
 use Rattle.twcc_plan.specs.Plan.{takenIn}
-use Rattle.twcc_plan.specs.PlanLaws.{Good, Planned, good-taken, good-agrees, front-run, below-drop, planned-reads}
+use Rattle.twcc_plan.specs.PlanLaws.{Good, Planned, good-taken, good-agrees, front-run, below-take, below-drop, planned-reads}
 use Rattle.twcc_plan.specs.BlockLaws.{valid-drop}
 use Rattle.twcc_write.specs.Stores.{Stored, Reached, ChunkStorable, Deliverable}
 use Rattle.twcc_chunks.proofs.Stepping.{drop-symbols}
@@ -74,6 +74,17 @@ run-entries list n (Run s r) good run =
 run-entries list n (One xs) good run = absurd (omega arith)
 run-entries list n (Two xs) good run = absurd (omega arith)
 
+one-entries : (list : List ℤ) (n : ℕ) (c : Chunk) → Good (drop n (map symbolOf list)) c → 32768 ≤ chunkWord c → chunkWord c < 49152
+    → Below 2 (take (takenBy c) (map symbolOf (drop n list)))
+unfolding chunkWord takenBy
+one-entries list n (Run s r) good vector one = absurd (omega arith)
+one-entries list n (One xs) good vector one =
+    let ss = drop n (map symbolOf list) in
+    let few : length xs ≤ 14 = omega (arith, ap length (good .1) ∙ length-take 14 ss) in
+    let below : Below 2 (take (length xs) (take 14 ss)) = rw (← (good .1)) (below-take 2 (length xs) xs (good .2)) in
+    rw drop-symbols (rw (take-take (length xs) 14 ss few) at below)
+one-entries list n (Two xs) good vector one = absurd (omega arith)
+
 module _ {list : List ℤ} {chunks taken : ℕ} {out₀ out : List ℕ} {end p n c : ℕ} (d : Deliverable list chunks taken out₀ end) where
   next : (ch : Chunk) (later : List Chunk) (used : ℕ) → Planned none used (ch ∷ later) (drop n (map symbolOf list)) → c + suc (length later) ≡ chunks
       → n + (takenBy ch + takenIn later) ≡ taken
@@ -116,6 +127,7 @@ module _ {list : List ℤ} {chunks taken : ℕ} {out₀ out : List ℕ} {end p n
             room = omega (arith, sizes, place, same, d .storable .room);
           };
           run = λ run. rw (is, all) (run-entries list n ch (planned .0) (rw is at run));
+          ones = λ vector one. rw all (one-entries list n ch (planned .0) (rw is at vector) (rw is at one));
         };
         further = λ p′ new kept delivered. record {
           left = later;

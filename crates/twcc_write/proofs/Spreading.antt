@@ -1,18 +1,22 @@
--- Deltas stored two bytes at a time: a byte too many is stored over by what follows.
-use Prim.Native.Nat.{ℕ, zero, suc, _+_, _/_, _%_, _≤_, _<_}
+-- Deltas stored one or two bytes at a time: a byte too many is stored over by what follows.
+use Prim.Native.Nat.{ℕ, zero, suc, _+_, _*_, _/_, _%_, _≤_, _<_}
 use mathlib.Core.Path.{_≡_, refl, sym, ap, ap₂, _∙_}
-use mathlib.Core.List.{List, [], _∷_, _++_, append-assoc, append-nil}
+use mathlib.Core.List.{List, [], _∷_, _++_, map, append-assoc, append-nil}
 use mathlib.Core.Bool.{cond}
 use native.Mathlib.Numerals.{add-one}
 use native.Mathlib.Omega.{arith}
 use borrow.Author.Tests.{eq-eqb, ne-eqb}
 use lib.Dec.{eqb}
 use lib.IntN.{ℤ, pos}
-use lib.ListN.{length, take, set, length-append}
-use lib.Seq.{sets, set-set, set-comm, take-suc, getD-set-other}
+use lib.ListN.{length, getD, take, set, length-append, length-map, length-take}
+use lib.Seq.{sets, set-set, set-comm, take-suc, take-take, getD-take, getD-set-other}
 use Rattle.lent.specs.Laws.{sets-append}
 use Rattle.twcc.specs.Words.{symbolOf, bits16, bytesFor, deltaBytes, deltas}
-use Rattle.twcc.specs.Written.{by-test, symbol-lt, length-delta}
+use Rattle.twcc.specs.Chunks.{Below}
+use Rattle.twcc.specs.Written.{by-test, symbol-lt, symbols-lt, length-delta, length-deltas}
+use Rattle.twcc_plan.specs.PlanLaws.{below-take, width-le}
+use Rattle.twcc_plan.specs.BlockLaws.{take-symbols}
+use Rattle.twcc_pick.proofs.Symbols.{symbol-there}
 use Rattle.twcc_write.specs.Stores.{wordAt, DeltaStorable, DeltaStored, QuickStored, Storable, Stored, Reached}
 use Rattle.twcc_write.proofs.Words.{valid-at, small-bits}
 use Rattle.twcc_write.proofs.Bytes.{getD-before, deltas-append, deltas-few}
@@ -87,6 +91,28 @@ module _ (list : List ℤ) (n : ℕ) (old : List ℕ) (at end symbol bits first 
         further = by-symbol symbol refl;
       }
 
+-- a word without a large delta: one byte, right or stored over
+module _ (list : List ℤ) (n : ℕ) (old : List ℕ) (at end symbol bits : ℕ) (is : symbol ≡ symbolOf (wordAt list n)) (low : bits ≡ bits16 (wordAt list n)) (one-bit : symbol < 2)
+    (room : at + 1 ≤ end) where
+  by-bit : (s : ℕ) → symbol ≡ s → (xs : List ℕ) → at + symbol + length xs ≡ end → sets (set old at (bits % 256)) (at + symbol) xs ≡ sets old at (deltaBytes (wordAt list n) ++ xs)
+  unfolding deltaBytes bytesFor
+  by-bit zero e xs ends =
+      let place : at + symbol ≡ at = omega arith in
+      rw (place, sym is ∙ e) (over-one old at (bits % 256) xs (omega arith))
+  by-bit (suc zero) e xs ends =
+      let place : at + symbol ≡ suc at = omega arith in
+      let few : bits % 256 ≡ bits = omega (arith, small-bits (wordAt list n) (sym is ∙ e)) in
+      rw (place, few, low, sym is ∙ e) refl
+  by-bit (suc (suc s)) e xs ends = absurd (omega arith)
+
+  pub single-stored : QuickStored list n old at end (at + symbol) (set old at (bits % 256))
+  single-stored =
+      record {
+        next = omega arith;
+        kept = λ i before. getD-set-other old at i (bits % 256) 0 (λ same. omega arith);
+        further = by-bit symbol refl;
+      }
+
 -- ---- the first entries
 
 -- n of them are stored, p is where they end
@@ -139,3 +165,29 @@ module _ {list : List ℤ} {entries : ℕ} {out₀ out : List ℕ} {at end p n :
                 ∙ ap (λ (l : List ℕ). sets out₀ at l) (sym (append-assoc (deltas (take n list)) bytes xs) ∙ ap (λ (l : List ℕ). l ++ xs) (sym one-more));
           });
         }
+
+-- ---- how far they go at most
+
+below-at : (b n : ℕ) (ss : List ℕ) → Below b ss → n < length ss → getD ss n 0 < b
+below-at b n [] below inside = absurd (omega arith)
+below-at b zero (s ∷ ss) below inside = below .0
+below-at b (suc n) (s ∷ ss) below inside = below-at b n ss (below .1) (omega arith)
+
+pub symbol-below : (list : List ℤ) (entries n : ℕ) → Below 2 (take entries (map symbolOf list)) → n < entries → entries ≤ length list → symbolOf (wordAt list n) < 2
+symbol-below list entries n below more inside =
+    let ss = map symbolOf list in
+    let there : n < length (take entries ss) = rw (length-take, length-map) (omega arith) in
+    let few = below-at 2 n (take entries ss) below there in
+    omega (arith, few, getD-take entries ss n 0 more, symbol-there list n (pos 0) (omega arith))
+
+module _ {list : List ℤ} {entries : ℕ} {out₀ out : List ℕ} {at end p n : ℕ} (d : Spreading list entries out₀ at end out p n) where
+  size-taken : length (map symbolOf (take n list)) ≤ n
+  size-taken = rw (length-map, length-take) (omega arith)
+
+  pub pace-two : p ≤ at + 2 * n
+  pace-two = omega (arith, d .reached .next, length-deltas (take n list), width-le 2 (map symbolOf (take n list)) (omega arith) (symbols-lt (take n list)), size-taken)
+
+  pub pace-one : Below 2 (take entries (map symbolOf list)) → p ≤ at + n
+  pace-one below =
+      let here : Below 2 (map symbolOf (take n list)) = rw (take-take n entries (map symbolOf list) (d .within), take-symbols n list) at (below-take 2 n (take entries (map symbolOf list)) below) in
+      omega (arith, d .reached .next, length-deltas (take n list), width-le 1 (map symbolOf (take n list)) (omega arith) here, size-taken)

@@ -8,7 +8,7 @@ use lib.ListN.{length, getD, take, replicate}
 use lib.Seq.{sets}
 use Rattle.twcc.specs.Time.{latest}
 use Rattle.twcc.specs.Words.{Valid, AllValid, symbolOf, deltaBytes, deltas}
-use Rattle.twcc.specs.Chunks.{Chunk, chunkWord}
+use Rattle.twcc.specs.Chunks.{Chunk, Below, chunkWord}
 use Rattle.twcc.specs.Written.{wordBytes}
 use Rattle.twcc_plan.specs.Plan.{takenIn}
 use Rattle.twcc_plan.specs.Block.{most, takenOf, sizeOf, blockBytes}
@@ -55,10 +55,11 @@ pub record RunStorable (list : List ℤ) (symbol entries : ℕ) (out : List ℕ)
   pub storable : Storable list entries out at
   pub same : take entries (map symbolOf list) ≡ replicate entries symbol
 
--- they are those of a chunk: of a run's word, all have its symbol
+-- they are those of a chunk: of a run's word, all have its symbol; of a one-bit vector's, none is large
 pub record ChunkStorable (list : List ℤ) (word entries : ℕ) (out : List ℕ) (at : ℕ) : Type 0 where
   pub storable : Storable list entries out at
   pub run : word < 32768 → (word / 8192 ≤ 2) × (take entries (map symbolOf list) ≡ replicate entries (word / 8192))
+  pub ones : 32768 ≤ word → word < 49152 → Below 2 (take entries (map symbolOf list))
 
 -- the words of a plan's chunks stand behind the header's place, and there is room for the deltas
 pub record Deliverable (list : List ℤ) (chunks taken : ℕ) (out : List ℕ) (end : ℕ) : Type 0 where

@@ -4,6 +4,7 @@ use kinds::Seq;
 use refusal::Refusal;
 use twcc_chunks::Limit;
 ghost use mathlib.Core.Path.{_≡_};
+ghost use mathlib.Core.List.{map};
 ghost use mathlib.Core.Bool.{cond};
 ghost use Prim.Native.Nat.{_+_, _*_, _/_, _%_, _≤_, _<_, min};
 ghost use lib.Dec.{ltb, eqb};
@@ -12,6 +13,7 @@ ghost use lib.ListN.{length, getD, take, drop};
 ghost use lib.Seq.{sets};
 ghost use Rattle.twcc.specs.Time.{latest, timeBits};
 ghost use Rattle.twcc.specs.Words.{Valid, symbolOf, bits16, deltas};
+ghost use Rattle.twcc.specs.Chunks.{Below};
 ghost use Rattle.twcc_plan.specs.Block.{header, sizeOf};
 ghost use Rattle.twcc_chunks.specs.Limits.{limitOf};
 ghost use Rattle.twcc_write.specs.Limits.{leastOf, limitWithin};
@@ -76,8 +78,35 @@ fn put_delta(list: &[i32], n: usize, out: &mut [u8], at: usize) -> usize
     at + 2
 }
 
+fn sized(x: u32) -> usize
+    ensures { λ r. ⌜ r ≡ x ⌝ }
+{
+    x as usize
+}
+
 // The same without a jump by symbol: two bytes are stored, and those that are too many are stored over by what follows, up
 // to a place `end`.
+fn put_two(list: &[i32], n: usize, out: &mut [u8], at: usize, end: usize) -> usize
+    requires { ⌜ (DeltaStorable (now list) n (now out) at) × (at + 2 ≤ end) × (end ≤ length (now out)) ⌝ }
+    ensures { λ r. ⌜ QuickStored (now (list .entry)) n (now (out .entry)) at end r (now (out .exit)) ⌝ }
+{
+    let symbol = sized(twcc_pick::symbol_in(list, n));
+    let bits = low_at(list, n);
+    out[at] = leading(symbol, bits) as u8;
+    out[at + 1] = (bits % 256) as u8;
+    at + symbol
+}
+
+// The same of a word without a large delta: one byte is stored.
+fn put_one(list: &[i32], n: usize, out: &mut [u8], at: usize, end: usize) -> usize
+    requires { ⌜ (DeltaStorable (now list) n (now out) at) × (symbolOf (wordAt (now list) n) < 2) × (at + 1 ≤ end) × (end ≤ length (now out)) ⌝ }
+    ensures { λ r. ⌜ QuickStored (now (list .entry)) n (now (out .entry)) at end r (now (out .exit)) ⌝ }
+{
+    out[at] = (low_at(list, n) % 256) as u8;
+    at + sized(twcc_pick::small_in(list, n))
+}
+
+// The same where two bytes may be too many.
 fn put_quick(list: &[i32], n: usize, out: &mut [u8], at: usize, end: usize) -> usize
     requires { ⌜ (DeltaStorable (now list) n (now out) at) × (end ≤ length (now out)) ⌝ }
     ensures { λ r. ⌜ QuickStored (now (list .entry)) n (now (out .entry)) at end r (now (out .exit)) ⌝ }
@@ -85,11 +114,7 @@ fn put_quick(list: &[i32], n: usize, out: &mut [u8], at: usize, end: usize) -> u
     if end < at + 2 {
         return put_delta(list, n, out, at);
     }
-    let symbol = twcc_pick::symbol_at(list, n);
-    let bits = low_at(list, n);
-    out[at] = leading(symbol, bits) as u8;
-    out[at + 1] = (bits % 256) as u8;
-    at + symbol
+    put_two(list, n, out, at, end)
 }
 
 // The delta bytes of the first entries, one by one; the place after them.
@@ -104,6 +129,62 @@ fn put_each(rest: &[i32], entries: usize, out: &mut [u8], at: usize, end: usize)
         n = n + 1;
     }
     p
+}
+
+// The delta bytes of a whole one-bit vector.
+fn put_fourteen(rest: &[i32], out: &mut [u8], at: usize, end: usize) -> usize
+    requires { ⌜ (Storable (now rest) 14 (now out) at) × (Below 2 (take 14 (map symbolOf (now rest)))) × (at + 14 ≤ end) × (end ≤ length (now out)) ⌝ }
+    ensures { λ r. ⌜ Reached (now (rest .entry)) 14 (now (out .entry)) at end r (now (out .exit)) ⌝ }
+{
+    let mut p = at;
+    let mut n: usize = 0;
+    while n < 14 {
+        p = put_one(rest, n, out, p, end);
+        n = n + 1;
+    }
+    p
+}
+
+// The delta bytes of a whole two-bit vector.
+fn put_seven(rest: &[i32], out: &mut [u8], at: usize, end: usize) -> usize
+    requires { ⌜ (Storable (now rest) 7 (now out) at) × (at + 14 ≤ end) × (end ≤ length (now out)) ⌝ }
+    ensures { λ r. ⌜ Reached (now (rest .entry)) 7 (now (out .entry)) at end r (now (out .exit)) ⌝ }
+{
+    let mut p = at;
+    let mut n: usize = 0;
+    while n < 7 {
+        p = put_two(rest, n, out, p, end);
+        n = n + 1;
+    }
+    p
+}
+
+// The delta bytes of a one-bit vector: all at once where it is whole and not the last.
+fn put_ones(rest: &[i32], entries: usize, out: &mut [u8], at: usize, end: usize) -> usize
+    requires { ⌜ (Storable (now rest) entries (now out) at) × (Below 2 (take entries (map symbolOf (now rest)))) × (end ≤ length (now out)) ⌝ }
+    ensures { λ r. ⌜ Reached (now (rest .entry)) entries (now (out .entry)) at end r (now (out .exit)) ⌝ }
+{
+    if entries != 14 {
+        return put_each(rest, entries, out, at, end);
+    }
+    if end < at + 14 {
+        return put_each(rest, entries, out, at, end);
+    }
+    put_fourteen(rest, out, at, end)
+}
+
+// The same of a two-bit vector.
+fn put_twos(rest: &[i32], entries: usize, out: &mut [u8], at: usize, end: usize) -> usize
+    requires { ⌜ (Storable (now rest) entries (now out) at) × (end ≤ length (now out)) ⌝ }
+    ensures { λ r. ⌜ Reached (now (rest .entry)) entries (now (out .entry)) at end r (now (out .exit)) ⌝ }
+{
+    if entries != 7 {
+        return put_each(rest, entries, out, at, end);
+    }
+    if end < at + 14 {
+        return put_each(rest, entries, out, at, end);
+    }
+    put_seven(rest, out, at, end)
 }
 
 // A small delta is its word.
@@ -165,7 +246,10 @@ fn put_chunk(
         put_large(rest, entries, out, at);
         return at + 2 * entries;
     }
-    put_each(rest, entries, out, at, end)
+    if word < 49152 {
+        return put_ones(rest, entries, out, at, end);
+    }
+    put_twos(rest, entries, out, at, end)
 }
 
 // The same of the entries from a place on.

@@ -35,14 +35,23 @@ same-length-2 c = search needs
 returns-3 : tie.Need-returns-3
 returns-3 c = large-reached (c .before .before .before .before .before .before .before .before .pre .0) _ (c .before .before .before .before .before .if2 .left) (c .before .before .before .before .if3 .taken) (c .before .before .put-large .ensures)
 
-put-each-requires : tie.Need-put-each-requires
-put-each-requires c κs = search needs
+put-ones-requires : tie.Need-put-ones-requires
+put-ones-requires c κs = let s = c .before .before .before .before .before .before in (s .pre .0 .storable, s .pre .0 .ones (c .before .before .if3 .left) (c .before .if4 .taken), s .pre .1)
 
 same-length-3 : tie.Need-same-length-3
 same-length-3 c = search needs
 
 returns-4 : tie.Need-returns-4
 returns-4 c = search needs
+
+put-twos-requires : tie.Need-put-twos-requires
+put-twos-requires c κs = search needs
+
+same-length-4 : tie.Need-same-length-4
+same-length-4 c = search needs
+
+returns-5 : tie.Need-returns-5
+returns-5 c = search needs
 
 pub put-chunk-spec : {M : Type 1} → statement M
 put-chunk-spec =
@@ -58,6 +67,9 @@ put-chunk-spec =
     add-result-2
     same-length-2
     returns-3
-    put-each-requires
+    put-ones-requires
     same-length-3
-    returns-4)
+    returns-4
+    put-twos-requires
+    same-length-4
+    returns-5)

@@ -1,15 +1,6 @@
--- Two bytes are right or stored over; where two would be too many, the exact store.
+-- Two bytes; where two would be too many, the exact store.
 use borrow.Author.Needs.{needs}
-use Prim.Native.Nat.{_<_}
-use mathlib.Core.Path.{sym, _∙_}
-use native.Mathlib.Omega.{arith}
-use denote.Ref.{now}
-use lib.IntN.{pos}
-use lib.ListN.{length-set}
-use Rattle.twcc_pick.proofs.Symbols.{symbol-there}
-use Rattle.twcc_write.specs.Stores.{wordAt}
-use Rattle.twcc_write.proofs.Words.{bits-lt}
-use Rattle.twcc_write.proofs.Spreading.{exact-quick, leading-lt, quick-stored}
+use Rattle.twcc_write.proofs.Spreading.{exact-quick}
 use Rattle.twcc_write.proofs.put_quick.Statement.{statement}
 use Rattle.twcc_write.proofs.put_quick.Tie as tie
 
@@ -25,44 +16,14 @@ same-length c = search needs
 returns : tie.Need-returns
 returns c = exact-quick (c .before .before .put-delta .ensures)
 
-symbol-at-requires : tie.Need-symbol-at-requires
-symbol-at-requires c κs = search needs
-
-low-at-requires : tie.Need-low-at-requires
-low-at-requires c κs = search needs
-
-leading-requires : tie.Need-leading-requires
-leading-requires c κs = search needs
-
-cast-out : tie.Need-cast-out
-cast-out c =
-    let s = c .before .before .before .before .before in
-    let bits : c .before .low-at .result < 65536 = omega (arith, bits-lt (wordAt (now (s .args .list)) (s .args .n)) (s .pre .0 .valid), c .before .low-at .ensures) in
-    omega (arith, leading-lt (c .before .before .symbol-at .result) (c .before .low-at .result) bits, c .leading .ensures)
-
-slice-write-out : tie.Need-slice-write-out
-slice-write-out c = search needs
-
-cast-out-2 : tie.Need-cast-out-2
-cast-out-2 c = search needs
-
-add-out : tie.Need-add-out
-add-out c = search needs
-
-slice-write-out-2 : tie.Need-slice-write-out-2
-slice-write-out-2 c = simp length-set (omega (arith, c .before .before .before .if1 .left, c .before .before .before .before .before .pre .1))
-
-add-result : tie.Need-add-result
-add-result c = search needs
+put-two-requires : tie.Need-put-two-requires
+put-two-requires c κs = search needs
 
 same-length-2 : tie.Need-same-length-2
 same-length-2 c = search needs
 
 returns-2 : tie.Need-returns-2
-returns-2 c =
-    let s = c .before .before .before .before .before in
-    let symbol = c .before .before .symbol-at .ensures .0 ∙ sym (symbol-there (now (s .args .list)) (s .args .n) (pos 0) (s .pre .0 .inside)) in
-    quick-stored (now (s .args .list)) _ _ _ _ _ _ _ symbol (c .before .low-at .ensures) (c .leading .ensures) (c .before .before .before .if1 .left)
+returns-2 c = search needs
 
 pub put-quick-spec : {M : Type 1} → statement M
 put-quick-spec =
@@ -72,14 +33,6 @@ put-quick-spec =
     put-delta-requires
     same-length
     returns
-    symbol-at-requires
-    low-at-requires
-    leading-requires
-    cast-out
-    slice-write-out
-    cast-out-2
-    add-out
-    slice-write-out-2
-    add-result
+    put-two-requires
     same-length-2
     returns-2)
