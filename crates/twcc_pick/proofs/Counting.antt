@@ -20,11 +20,24 @@ front-skip p (suc n) (x ∷ xs) run =
     (λ e. let all : suc n ≤ suc (front p xs) = rw e at run in rw e (omega (arith, front-skip p n xs (omega arith))))
     (λ e. absurd (let none : suc n ≤ 0 = rw e at run in omega arith))
 
+pub front-mono : {A : Type 0} (p q : A → Bool) → ((x : A) → p x ≡ true → q x ≡ true) → (xs : List A) → front p xs ≤ front q xs
+unfolding front
+front-mono p q pass [] = omega arith
+front-mono p q pass (x ∷ xs) = by-test (p x) (λ e. rw (e, pass x e) (omega (arith, front-mono p q pass xs))) (λ e. rw e (omega arith))
+
+-- what stands behind the front does not pass
+pub front-stops : {A : Type 0} (p : A → Bool) (xs : List A) (n : ℕ) (d : A) → front p xs ≡ n → n < length xs → p (getD xs n d) ≡ false
+front-stops p xs n d whole inside =
+    by-test (p (getD xs n d)) (λ e. absurd (omega (arith, whole, front-skip p n xs (omega arith), front-yes p xs n d inside e))) (λ e. e)
+
 module _ {A : Type 0} (p : A → Bool) (xs : List A) where
   -- ---- one at a time
 
   pub counting-start : (end : ℕ) → Counting p xs end 0
   counting-start end = record { within = omega arith; counted = omega arith }
+
+  pub counting-known : (end n : ℕ) → n ≤ end → n ≤ front p xs → Counting p xs end n
+  counting-known end n within known = record { within = within; counted = front-skip p n xs known }
 
   module _ {end n : ℕ} (c : Counting p xs end n) where
     pub counting-over : end ≡ length xs → end ≤ n → n ≡ front p xs

@@ -4,3 +4,4 @@ pub mod Packing
 pub mod Choosing
 pub mod Sevens
 pub mod Ranging
+pub mod Fourteen

@@ -23,7 +23,7 @@ unfolding pack
 pack-nil base zero = refl
 pack-nil base (suc m) = refl
 
-pack-more : (base m : ℕ) (ss : List ℕ) (n : ℕ) → pack base (suc m) (drop n ss) ≡ getD ss n 0 * base ^ m + pack base m (drop (suc n) ss)
+pub pack-more : (base m : ℕ) (ss : List ℕ) (n : ℕ) → pack base (suc m) (drop n ss) ≡ getD ss n 0 * base ^ m + pack base m (drop (suc n) ss)
 unfolding pack
 pack-more base m [] zero = omega (arith, pack-nil base m, zero-mul (base ^ m))
 pack-more base m [] (suc n) = omega (arith, pack-nil base m, zero-mul (base ^ m))
@@ -35,7 +35,7 @@ unfolding widthOf
 width-none zero = refl
 width-none (suc m) = refl
 
-width-more : (m : ℕ) (ss : List ℕ) (n : ℕ) → getD ss n 0 ≤ 2 → widthOf (take (suc m) (drop n ss)) ≡ getD ss n 0 + widthOf (take m (drop (suc n) ss))
+pub width-more : (m : ℕ) (ss : List ℕ) (n : ℕ) → getD ss n 0 ≤ 2 → widthOf (take (suc m) (drop n ss)) ≡ getD ss n 0 + widthOf (take m (drop (suc n) ss))
 unfolding widthOf
 width-more m [] zero known = omega (arith, width-none m)
 width-more m [] (suc n) known = omega (arith, width-none m)

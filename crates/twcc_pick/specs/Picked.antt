@@ -1,11 +1,14 @@
 -- A chunk as the code holds it.
-use Prim.Native.Nat.{ℕ, _+_, _*_, _/_, _^_, _≤_, min}
+use Prim.Native.Nat.{ℕ, _+_, _*_, _/_, _^_, _≤_, _<_, min}
 use mathlib.Core.Path.{_≡_}
 use mathlib.Core.List.{List, [], _∷_}
-use lib.ListN.{length, take}
+use mathlib.Core.Bool.{true, false}
+use lib.Dec.{eqb}
+use lib.ListN.{length, getD, take}
 use Rattle.twcc.specs.Words.{widthOf}
 use Rattle.twcc.specs.Chunks.{Chunk, pack, chunkWord}
-use Rattle.twcc_plan.specs.Choice.{takenBy, widthBy}
+use Rattle.twcc_plan.specs.Front.{front}
+use Rattle.twcc_plan.specs.Choice.{runOf, onesOf, isRun, takenBy, widthBy}
 use Rattle.twcc_pick.specs.declared.Picked.{Picked}
 use Rattle.twcc_pick.specs.declared.Seven.{Seven}
 
@@ -28,23 +31,30 @@ unfoldable pub twosIn : List ℕ → ℕ
 twosIn [] = 0
 twosIn (s ∷ ss) = s / 2 + twosIn ss
 
--- sums of seven symbols
-pub record Slight (r : Seven) : Type 0 where
-  pub two : r .two ≤ 32768
-  pub one : r .one ≤ 32768
-  pub width : r .width ≤ 14
-
 -- the first seven symbols
 pub record Sevens (ss : List ℕ) (r : Seven) : Type 0 where
   pub two : r .two ≡ pack 4 7 ss
-  pub one : r .one ≡ pack 2 7 ss
   pub width : r .width ≡ widthOf (take 7 ss)
   pub twos : r .twos ≡ twosIn (take 7 ss)
-  pub small : Slight r
+  pub small : (r .two ≤ 32768) × (r .width ≤ 14)
 
--- a two-bit vector of seven symbols, and a one-bit vector of twice seven
 abbrev pub twoOf : Seven → Picked
 twoOf a = record { word = 49152 + a .two; count = 7; width = a .width }
 
-abbrev pub oneOf : Seven → Seven → Picked
-oneOf a b = record { word = 32768 + a .one * 128 + b .one; count = 14; width = a .width + b .width }
+abbrev pub runPicked : ℕ → ℕ → Picked
+runPicked s r = record { word = s * 8192 + r; count = r; width = s * r }
+
+-- one-bit digits, and above 65,536 their delta bytes
+abbrev pub weightOf : ℕ → List ℕ → ℕ
+weightOf n ss = 65536 * widthOf (take n ss) + pack 2 n ss
+
+-- the first symbol, which seven have
+pub record Alike (ss : List ℕ) (first : ℕ) : Type 0 where
+  pub known : first ≤ 2
+  pub stands : first ≡ getD ss 0 0
+  pub seven : 7 ≤ front (eqb first) ss
+
+-- a run that makes a chunk, or 0 where none does
+pub record Settles (ss : List ℕ) (r : ℕ) : Type 0 where
+  pub none : r ≡ 0 → isRun (runOf ss) (onesOf ss) ≡ false
+  pub some : 0 < r → (isRun (runOf ss) (onesOf ss) ≡ true) × (r ≡ runOf ss)

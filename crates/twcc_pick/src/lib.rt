@@ -1,17 +1,18 @@
 // What a TWCC block writer sees in its list: the first word that can't be written, and the chunk picked for what remains.
 ghost use mathlib.Core.Path.{_≡_};
 ghost use mathlib.Core.List.{map};
-ghost use mathlib.Core.Bool.{cond};
+ghost use mathlib.Core.Bool.{true, cond};
 ghost use Prim.Native.Nat.{_+_, _%_, _≤_, _<_, min};
 ghost use lib.Dec.{eqb};
 ghost use lib.IntN.{pos};
-ghost use lib.ListN.{length, getD, drop};
+ghost use lib.ListN.{length, getD, take, drop};
 ghost use Rattle.twcc.specs.Words.{symbolOf};
+ghost use Rattle.twcc.specs.Chunks.{Below, pack};
 ghost use Rattle.twcc_plan.specs.Front.{front};
 ghost use Rattle.twcc_plan.specs.Block.{inRange, firstBad};
 ghost use Rattle.twcc_plan.specs.Choice.{runOf, onesOf, isRun, isOne, chunkFor};
 ghost use Rattle.twcc_pick.specs.Counting.{Counting};
-ghost use Rattle.twcc_pick.specs.Picked.{picked, Places, vectorOf, Slight, Sevens, twoOf, oneOf};
+ghost use Rattle.twcc_pick.specs.Picked.{picked, Places, vectorOf, runPicked, weightOf, Sevens, twoOf, Alike, Settles};
 
 // The longest run that one chunk holds.
 const LONGEST_RUN: usize = 8191;
@@ -122,13 +123,12 @@ fn run_blocks(rest: &[i32], first: u32, from: usize, end: usize) -> usize
     n
 }
 
-// The run of a symbol from the front, where it is known up to `from`.
-fn run_from(rest: &[i32], first: u32, from: usize) -> usize
-    requires { ⌜ Counting (eqb first) (map symbolOf (now rest)) (min 8191 (length (now rest))) from ⌝ }
-    ensures { λ r. ⌜ r ≡ min 8191 (front (eqb first) (map symbolOf (now (rest .entry)))) ⌝ }
+// The same up to `end`, entry by entry.
+fn run_plain(rest: &[i32], first: u32, from: usize, end: usize) -> usize
+    requires { ⌜ (end ≤ length (now rest)) × (Counting (eqb first) (map symbolOf (now rest)) end from) ⌝ }
+    ensures { λ r. ⌜ r ≡ min end (front (eqb first) (map symbolOf (now (rest .entry)))) ⌝ }
 {
-    let end = lesser(LONGEST_RUN, rest.len());
-    let mut n = run_blocks(rest, first, from, end);
+    let mut n = from;
     while n < end {
         if symbol_in(rest, n) != first {
             return n;
@@ -138,11 +138,39 @@ fn run_from(rest: &[i32], first: u32, from: usize) -> usize
     n
 }
 
+// The run of a symbol from the front, where it is known up to `from`: most runs end soon, long ones go by blocks.
+fn run_from(rest: &[i32], first: u32, from: usize) -> usize
+    requires { ⌜ Counting (eqb first) (map symbolOf (now rest)) (min 8191 (length (now rest))) from ⌝ }
+    ensures { λ r. ⌜ r ≡ min 8191 (front (eqb first) (map symbolOf (now (rest .entry)))) ⌝ }
+{
+    let end = lesser(LONGEST_RUN, rest.len());
+    let near = lesser(from + 32, end);
+    let n = run_plain(rest, first, from, near);
+    if n < near {
+        return n;
+    }
+    run_plain(rest, first, run_blocks(rest, first, n, end), end)
+}
+
+// The same, with each symbol's own loops.
+fn run_known(rest: &[i32], first: u32, from: usize) -> usize
+    requires { ⌜ (first ≤ 2) × (Counting (eqb first) (map symbolOf (now rest)) (min 8191 (length (now rest))) from) ⌝ }
+    ensures { λ r. ⌜ r ≡ min 8191 (front (eqb first) (map symbolOf (now (rest .entry)))) ⌝ }
+{
+    if first == 0 {
+        return run_from(rest, 0, from);
+    }
+    if first == 1 {
+        return run_from(rest, 1, from);
+    }
+    run_from(rest, 2, from)
+}
+
 // The run of equal symbols from the front.
 fn run_length(rest: &[i32]) -> usize
     ensures { λ r. ⌜ r ≡ runOf (map symbolOf (now (rest .entry))) ⌝ }
 {
-    run_from(rest, symbol_or_lost(rest, 0), 0)
+    run_known(rest, symbol_or_lost(rest, 0), 0)
 }
 
 // The entries at the front with symbol 0 or 1, at most 14.
@@ -213,10 +241,84 @@ fn pick_counted(rest: &[i32]) -> Picked
     vector(rest, 4, 7, 49152)
 }
 
-// Seven symbols as two-bit and as one-bit digits, their delta bytes, and how many of them are 2.
+// A chunk of a run.
+fn run_picked(symbol: u32, r: usize) -> Picked
+    requires { ⌜ (symbol ≤ 2) × (r ≤ 8191) ⌝ }
+    ensures { λ p. ⌜ p ≡ runPicked symbol r ⌝ }
+{
+    let s = wide(symbol);
+    Picked {
+        word: s * 8192 + r,
+        count: r,
+        width: s * r,
+    }
+}
+
+// Whether no delta of the first fourteen is large, by the bits that they have together: of words in range that is settled.
+fn plain(rest: &[i32]) -> bool
+    requires { ⌜ 14 ≤ length (now rest) ⌝ }
+    ensures { λ t. ⌜ (t ≡ true → Below 2 (take 14 (map symbolOf (now (rest .entry))))) ⌝ }
+{
+    let mut bits: i32 = 0;
+    let mut n: usize = 0;
+    while n < 14 {
+        bits = bits | rest[n];
+        n = n + 1;
+    }
+    if bits < 0 {
+        return false;
+    }
+    if 65535 < bits {
+        return false;
+    }
+    (bits as u32) / 256 % 128 == 0
+}
+
+// A weight for a small delta, else 0.
+fn weighed_in(rest: &[i32], at: usize, weight: u32) -> u32
+    requires { ⌜ at < length (now rest) ⌝ }
+    ensures { λ r. ⌜ (r ≡ cond (eqb (getD (map symbolOf (now (rest .entry))) at 0 % 2) 1) weight 0) × (r ≤ weight) ⌝ }
+{
+    if small_in(rest, at) == 1 { weight } else { 0 }
+}
+
+// Fourteen one-bit digits below 65,536, and above that their delta bytes, as one sum without a jump.
+fn weigh(rest: &[i32]) -> u32
+    requires { ⌜ (14 ≤ length (now rest)) × (Below 2 (take 14 (map symbolOf (now rest)))) ⌝ }
+    ensures { λ r. ⌜ r ≡ weightOf 14 (map symbolOf (now (rest .entry))) ⌝ }
+{
+    let mut sum: u32 = 0;
+    let mut weight: u32 = 8192;
+    let mut n: usize = 0;
+    while n < 14 {
+        sum = sum + weighed_in(rest, n, 65536 + weight);
+        weight = weight / 2;
+        n = n + 1;
+    }
+    sum
+}
+
+// The chunk for what remains where no delta of the first fourteen is large: equal symbols are a run, any other a one-bit vector.
+fn pick_plain(rest: &[i32]) -> Picked
+    requires { ⌜ (14 ≤ length (now rest)) × (Below 2 (take 14 (map symbolOf (now rest)))) ⌝ }
+    ensures { λ r. ⌜ r ≡ picked (chunkFor (map symbolOf (now (rest .entry)))) ⌝ }
+{
+    let sum = weigh(rest);
+    let width = sum / 65536;
+    if width % 14 == 0 {
+        let symbol = width / 14;
+        return run_picked(symbol, run_known(rest, symbol, 14));
+    }
+    Picked {
+        word: wide(32768 + sum % 65536),
+        count: 14,
+        width: wide(width),
+    }
+}
+
+// Seven symbols as two-bit digits, their delta bytes, and how many of them are 2.
 pub struct Seven {
     pub two: u32,
-    pub one: u32,
     pub width: u32,
     pub twos: u32,
 }
@@ -226,24 +328,17 @@ fn gather(rest: &[i32], at: usize) -> Seven
     ensures { λ r. ⌜ Sevens (drop at (map symbolOf (now (rest .entry)))) r ⌝ }
 {
     let mut two: u32 = 0;
-    let mut one: u32 = 0;
     let mut width: u32 = 0;
     let mut twos: u32 = 0;
     let mut n: usize = 0;
     while n < 7 {
         let symbol = symbol_in(rest, at + n);
         two = two * 4 + symbol;
-        one = one * 2 + symbol;
         width = width + symbol;
         twos = twos + symbol / 2;
         n = n + 1;
     }
-    Seven {
-        two,
-        one,
-        width,
-        twos,
-    }
+    Seven { two, width, twos }
 }
 
 // A two-bit vector of seven symbols.
@@ -258,30 +353,47 @@ fn two_picked(a: Seven) -> Picked
     }
 }
 
-// A one-bit vector of twice seven symbols.
-fn one_picked(a: Seven, b: Seven) -> Picked
-    requires { ⌜ (Slight a) × (Slight b) ⌝ }
-    ensures { λ r. ⌜ r ≡ oneOf a b ⌝ }
+// The run where seven symbols are equal, 0 where it makes no chunk. Below fourteen it makes one where nothing but a 2 parts it
+// from its one-bit symbols: then the first symbol or the one behind the run is 2.
+fn run_ahead(rest: &[i32], first: u32) -> usize
+    requires { ⌜ (14 ≤ length (now rest)) × (Alike (map symbolOf (now rest)) first) ⌝ }
+    ensures { λ r. ⌜ Settles (map symbolOf (now (rest .entry))) r ⌝ }
 {
-    Picked {
-        word: wide(32768 + a.one * 128 + b.one),
-        count: 14,
-        width: wide(a.width + b.width),
+    let r = run_known(rest, first, 7);
+    if 13 < r {
+        return r;
     }
+    if r == 7 {
+        return 0;
+    }
+    if first + symbol_in(rest, r) < 2 {
+        return 0;
+    }
+    r
 }
 
-// The chunk for what remains. Seven symbols that are not all equal make no run, and a 2 among the first fourteen settles
-// which vector it is.
-pub fn pick(rest: &[i32]) -> Picked
+// The run from the front where it makes a chunk, else 0: seven symbols that are not all equal make none.
+fn run_at(rest: &[i32], two: u32) -> usize
+    requires { ⌜ (14 ≤ length (now rest)) × (two ≡ pack 4 7 (map symbolOf (now rest))) × (two ≤ 32768) ⌝ }
+    ensures { λ r. ⌜ Settles (map symbolOf (now (rest .entry))) r ⌝ }
+{
+    let first = two / 4096;
+    if two != first * 5461 {
+        return 0;
+    }
+    run_ahead(rest, first)
+}
+
+// The chunk for what remains, fourteen or more: a run, or else a 2 among the first fourteen settles that it is a two-bit vector.
+fn pick_mixed(rest: &[i32]) -> Picked
+    requires { ⌜ 14 ≤ length (now rest) ⌝ }
     ensures { λ r. ⌜ r ≡ picked (chunkFor (map symbolOf (now (rest .entry)))) ⌝ }
 {
-    if rest.len() < 14 {
-        return pick_counted(rest);
-    }
     let a = gather(rest, 0);
     let two = a.two;
-    if two == two / 4096 * 5461 {
-        return pick_counted(rest);
+    let r = run_at(rest, two);
+    if 0 < r {
+        return run_picked(two / 4096, r);
     }
     if 0 < a.twos {
         return two_picked(a);
@@ -290,7 +402,20 @@ pub fn pick(rest: &[i32]) -> Picked
     if 0 < b.twos {
         return two_picked(a);
     }
-    one_picked(a, b)
+    pick_counted(rest)
+}
+
+// The chunk for what remains.
+pub fn pick(rest: &[i32]) -> Picked
+    ensures { λ r. ⌜ r ≡ picked (chunkFor (map symbolOf (now (rest .entry)))) ⌝ }
+{
+    if rest.len() < 14 {
+        return pick_counted(rest);
+    }
+    if plain(rest) {
+        return pick_plain(rest);
+    }
+    pick_mixed(rest)
 }
 
 fn in_range(word: i32) -> bool

@@ -9,21 +9,21 @@ use lib.ListN.{drop}
 use lib.Seq.{getD-drop}
 use Rattle.twcc.specs.Words.{symbolOf}
 use Rattle.twcc_pick.proofs.Packing.{turn-fits}
-use Rattle.twcc_pick.proofs.Sevens.{four, both, Gathering, gathering-start, gathering-turn, gathering-over}
+use Rattle.twcc_pick.proofs.Sevens.{four, Gathering, gathering-start, gathering-turn, gathering-over}
 use Rattle.twcc_pick.proofs.gather.Statement.{statement}
 use Rattle.twcc_pick.proofs.gather.Tie as tie
 
 abbrev Inv-loop : tie.InvT-loop
-Inv-loop rest at two₀ one₀ width₀ twos₀ n₀ two one width twos n = Gathering (drop at (map symbolOf rest)) two one width twos n
+Inv-loop rest at two₀ width₀ twos₀ n₀ two width twos n = Gathering (drop at (map symbolOf rest)) two width twos n
 
 abbrev μ-loop : tie.MeasureT-loop
-μ-loop rest at two₀ one₀ width₀ twos₀ n₀ two one width twos n = 7 - n
+μ-loop rest at two₀ width₀ twos₀ n₀ two width twos n = 7 - n
 
 -- what the turn's sums come to
-small : (c : tie.In-loop Inv-loop μ-loop) → (c .before .loop .two * 4 + 4 ≤ 32768) × (c .before .loop .one * 2 + 4 ≤ 32768) × (c .before .loop .width ≤ 14) × (c .before .loop .twos ≤ 7)
+small : (c : tie.In-loop Inv-loop μ-loop) → (c .before .loop .two * 4 + 4 ≤ 32768) × (c .before .loop .width ≤ 14) × (c .before .loop .twos ≤ 7)
 small c =
     let g = c .before .loop .inv in
-    (turn-fits four _ (g .wide) (c .loop-test .taken), turn-fits both _ (g .slim) (c .loop-test .taken), omega (arith, g .wide .light, g .wide .within), omega (arith, g .few, g .wide .within))
+    (turn-fits four _ (g .wide) (c .loop-test .taken), omega (arith, g .wide .light, g .wide .within), omega (arith, g .few, g .wide .within))
 
 loop-holds : tie.Need-loop-holds Inv-loop μ-loop
 loop-holds c = gathering-start _
@@ -39,12 +39,6 @@ mul-two c = omega (arith, small (c .before))
 
 add-two : tie.Need-add-two Inv-loop μ-loop
 add-two c = omega (arith, small (c .before), c .symbol-in .ensures .1)
-
-mul-one : tie.Need-mul-one Inv-loop μ-loop
-mul-one c = omega (arith, small (c .before))
-
-add-one : tie.Need-add-one Inv-loop μ-loop
-add-one c = omega (arith, small (c .before), c .symbol-in .ensures .1)
 
 add-width : tie.Need-add-width Inv-loop μ-loop
 add-width c = omega (arith, small (c .before), c .symbol-in .ensures .1)
@@ -78,8 +72,6 @@ gather-spec =
     symbol-in-requires
     mul-two
     add-two
-    mul-one
-    add-one
     add-width
     add-twos
     add-n

@@ -1,75 +1,55 @@
--- Blocks first, then each turn passes one more symbol equal to the first.
+-- The near part, and where that is a run the blocks and what is left of them.
 use borrow.Author.Needs.{needs}
-use borrow.Author.Tests.{eq-eqb, ne-eqb}
-use Prim.Native.Nat.{_-_, _<_}
-use mathlib.Core.Path.{sym}
 use mathlib.Core.List.{map}
 use native.Mathlib.Omega.{arith}
 use denote.Ref.{now}
 use lib.Dec.{eqb}
-use lib.ListN.{length, length-map}
+use lib.ListN.{length-map}
 use Rattle.twcc.specs.Words.{symbolOf}
-use Rattle.twcc_pick.specs.Counting.{Counting}
-use Rattle.twcc_pick.proofs.Counting.{counting-turn, counting-stop, counting-cap}
+use Rattle.twcc_plan.specs.Front.{front-le}
+use Rattle.twcc_pick.proofs.Counting.{counting-known}
 use Rattle.twcc_pick.proofs.run_from.Statement.{statement}
 use Rattle.twcc_pick.proofs.run_from.Tie as tie
 
-abbrev Inv-loop : tie.InvT-loop
-Inv-loop rest first from end n₀ n = Counting (eqb first) (map symbolOf rest) end n
-
-abbrev μ-loop : tie.MeasureT-loop
-μ-loop rest first from end n₀ n = end - n
-
-lesser-requires : tie.Need-lesser-requires Inv-loop μ-loop
+lesser-requires : tie.Need-lesser-requires
 lesser-requires c κs = search needs
 
-run-blocks-requires : tie.Need-run-blocks-requires Inv-loop μ-loop
-run-blocks-requires c κs = (omega (arith, c .lesser .ensures), rw (c .lesser .ensures) (c .before .pre))
+add-lesser : tie.Need-add-lesser
+add-lesser c = search needs
 
-loop-holds : tie.Need-loop-holds Inv-loop μ-loop
-loop-holds c = c .run-blocks .ensures
+lesser-requires-2 : tie.Need-lesser-requires-2
+lesser-requires-2 c κs = search needs
 
-symbol-in-requires : tie.Need-symbol-in-requires Inv-loop μ-loop
-symbol-in-requires c κs = omega (arith, c .loop-test .taken, c .before .before .before .lesser .ensures)
+run-plain-requires : tie.Need-run-plain-requires
+run-plain-requires c κs = search needs
 
-returns : tie.Need-returns Inv-loop μ-loop
-returns c =
-    let l = c .before .before .before in
-    let rest = now (l .before .before .before .args .rest) in
-    let stop = counting-stop _ (map symbolOf rest) (l .loop .inv) 0 (rw length-map (omega (arith, c .before .before .loop-test .taken, l .before .before .lesser .ensures)))
-    (rw (← (c .before .symbol-in .ensures .0)) (ne-eqb _ _ (λ e. c .if1 .taken (sym e)))) in
-    omega (arith, stop, c .before .before .loop-test .taken, l .before .before .lesser .ensures)
+returns : tie.Need-returns
+returns c = search needs
 
-add-n : tie.Need-add-n Inv-loop μ-loop
-add-n c = search needs
+run-blocks-requires : tie.Need-run-blocks-requires
+run-blocks-requires c κs =
+    let near = c .before .before in
+    let end = near .before .lesser .ensures in
+    (omega (arith, end), counting-known _ _ _ _ (omega (arith, near .lesser2 .ensures, c .before .run-plain .ensures)) (omega (arith, c .before .run-plain .ensures, c .if1 .left)))
 
-loop-less : tie.Need-loop-less Inv-loop μ-loop
-loop-less c = search needs
+run-plain-requires-2 : tie.Need-run-plain-requires-2
+run-plain-requires-2 c κs = search needs
 
-loop-again : tie.Need-loop-again Inv-loop μ-loop
-loop-again c =
-    let l = c .before .before .before in
-    let rest = now (l .before .before .before .args .rest) in
-    counting-turn _ (map symbolOf rest) (l .loop .inv) 0 (rw length-map (omega (arith, c .before .before .loop-test .taken, l .before .before .lesser .ensures))) (c .before .before .loop-test .taken)
-    (rw (← (c .before .symbol-in .ensures .0)) (eq-eqb _ _ (sym (c .if1 .left))))
-
-returns-2 : tie.Need-returns-2 Inv-loop μ-loop
+returns-2 : tie.Need-returns-2
 returns-2 c =
-    let l = c .before in
-    counting-cap _ (map symbolOf (now (l .before .before .before .args .rest))) (l .loop .inv) 8191 (rw length-map (l .before .before .lesser .ensures)) (c .loop-test .left)
+    let s = c .before .before .before .before .before .before in
+    let ss = map symbolOf (now (s .args .rest)) in
+    omega (arith, c .run-plain2 .ensures, c .before .before .before .before .before .lesser .ensures, front-le (eqb (s .args .first)) ss, length-map (now (s .args .rest)) symbolOf)
 
 pub run-from-spec : {M : Type 1} → statement M
 run-from-spec =
     tie.close
     (tie.spec
-    Inv-loop
-    μ-loop
     lesser-requires
-    run-blocks-requires
-    loop-holds
-    symbol-in-requires
+    add-lesser
+    lesser-requires-2
+    run-plain-requires
     returns
-    add-n
-    loop-less
-    loop-again
+    run-blocks-requires
+    run-plain-requires-2
     returns-2)

@@ -7,12 +7,12 @@ use Rattle.twcc_pick.proofs.run_length.Tie as tie
 symbol-or-lost-requires : tie.Need-symbol-or-lost-requires
 symbol-or-lost-requires c κs = search needs
 
-run-from-requires : tie.Need-run-from-requires
-run-from-requires c κs = search needs
+run-known-requires : tie.Need-run-known-requires
+run-known-requires c κs = search needs
 
 returns : tie.Need-returns
 unfolding runOf
-returns c = rw (← (c .before .symbol-or-lost .ensures .0)) (c .run-from .ensures)
+returns c = rw (← (c .before .symbol-or-lost .ensures .0)) (c .run-known .ensures)
 
 pub run-length-spec : {M : Type 1} → statement M
-run-length-spec = tie.close (tie.spec symbol-or-lost-requires run-from-requires returns)
+run-length-spec = tie.close (tie.spec symbol-or-lost-requires run-known-requires returns)
