@@ -254,7 +254,8 @@ fn run_picked(symbol: u32, r: usize) -> Picked
     }
 }
 
-// Whether no delta of the first fourteen is large, by the bits that they have together: of words in range that is settled.
+// Whether no delta of the first fourteen is large, by the bits that their words have together. False settles nothing: it may be
+// a word out of range.
 fn plain(rest: &[i32]) -> bool
     requires { ⌜ 14 ≤ length (now rest) ⌝ }
     ensures { λ t. ⌜ (t ≡ true → Below 2 (take 14 (map symbolOf (now (rest .entry))))) ⌝ }
@@ -353,8 +354,8 @@ fn two_picked(a: Seven) -> Picked
     }
 }
 
-// The run where seven symbols are equal, 0 where it makes no chunk. Below fourteen it makes one where nothing but a 2 parts it
-// from its one-bit symbols: then the first symbol or the one behind the run is 2.
+// The run where seven symbols are equal, or 0 where it makes no chunk. One of eight to thirteen makes a chunk if no one-bit symbol
+// would be counted on behind it: its symbol is 2, or the next one is. They differ, so either makes their sum 2 or more.
 fn run_ahead(rest: &[i32], first: u32) -> usize
     requires { ⌜ (14 ≤ length (now rest)) × (Alike (map symbolOf (now rest)) first) ⌝ }
     ensures { λ r. ⌜ Settles (map symbolOf (now (rest .entry))) r ⌝ }
@@ -385,6 +386,7 @@ fn run_at(rest: &[i32], two: u32) -> usize
 }
 
 // The chunk for what remains, fourteen or more: a run, or else a 2 among the first fourteen settles that it is a two-bit vector.
+// The count by count is left for words out of range.
 fn pick_mixed(rest: &[i32]) -> Picked
     requires { ⌜ 14 ≤ length (now rest) ⌝ }
     ensures { λ r. ⌜ r ≡ picked (chunkFor (map symbolOf (now (rest .entry)))) ⌝ }
