@@ -1,4 +1,4 @@
-// The calls of the C interface by the shape of their cases: each runs one line against our code.
+// The calls of the C interface by the shape of their lines: each runs one line against our code.
 use crate::line::behind;
 use crate::line::byte_at;
 use crate::line::next_place;
@@ -17,9 +17,9 @@ use crate::memory::shorts_of;
 use crate::memory::store_at;
 use crate::memory::words_at;
 use crate::memory::words_of;
-use crate::number::Numbers;
 use crate::number::byte_of;
 use crate::number::delta_of;
+use crate::number::number_of;
 use crate::number::numbers_at;
 use crate::number::short_of;
 use crate::number::time_of;
@@ -61,145 +61,154 @@ pub const TWCC_WRITE: usize = 15;
 
 pub const ARRIVAL: usize = 16;
 
-pub const NONE: usize = 99;
-
-// The row behind the calls in which all are counted.
-pub const TOTAL: usize = 18;
-
-// What our code said, whether the line was readable, and whether all was as recorded.
+// Whether a line was readable, whether our code says what is recorded, and whether it leaves it.
 pub struct Verdict {
-    pub said: Said,
     pub readable: bool,
-    pub agrees: bool,
+    pub says: bool,
+    pub leaves: bool,
 }
 
-// What our code said, and whether the memory that it read was readable.
+// Whether our code says what is recorded, and whether the memory that it read was readable.
 struct Told {
-    said: Said,
+    says: bool,
     good: bool,
 }
 
-// The recorded outcome, and the place behind it.
-struct Outcome {
-    said: Said,
-    next: usize,
-    good: bool,
-}
-
-// Whether the memory after the call was readable, and whether ours is like it.
+// Whether our code leaves the memory that is recorded, and whether that was readable.
 struct Left {
+    leaves: bool,
     good: bool,
-    same: bool,
 }
 
-// The outcome behind an arrow.
-fn outcome_at(s: &[u8], at: usize) -> Outcome {
-    let numbers = numbers_at(s, past_arrow(s, at));
-    let list = numbers.list;
-    Outcome {
-        said: Said {
-            number: list[0],
-            values: [list[1], list[2], list[3], list[4], list[5]],
-        },
-        next: numbers.next,
-        good: numbers.count > 0,
-    }
+// A number that the call is given.
+fn given(s: &[u8], place: usize) -> u64 {
+    number_of(s, next_place(s, 0, b' '), place)
 }
 
-fn same_said(a: Said, b: Said) -> bool {
-    let x = a.values;
-    let y = b.values;
-    if a.number != b.number {
-        return false;
-    }
-    if x[0] != y[0] {
-        return false;
-    }
-    if x[1] != y[1] {
-        return false;
-    }
-    if x[2] != y[2] {
-        return false;
-    }
-    if x[3] != y[3] {
-        return false;
-    }
-    x[4] == y[4]
+// Where the first memory stands, behind the numbers.
+fn first_at(s: &[u8]) -> usize {
+    let numbers = numbers_at(s, next_place(s, 0, b' '));
+    past_colon(s, numbers.next)
 }
 
-// The verdict of a case; `good` says that the other parts of its line were readable.
-fn weighed(told: Told, outcome: Outcome, left: Left, good: bool) -> Verdict {
-    let said = told.said;
-    let recorded = outcome.said;
-    Verdict {
-        said: said,
-        readable: good & told.good & outcome.good & left.good,
-        agrees: same_said(said, recorded) & left.same,
-    }
+// Where the second memory stands.
+fn second_at(s: &[u8]) -> usize {
+    past_colon(s, next_place(s, first_at(s), b' '))
 }
 
-// Where the memory after the call stands: where the memory before does, if `=` says that it is as it was.
-fn left_at(s: &[u8], at: usize, lent: usize) -> usize {
+// Where the outcome stands, behind the arrow.
+fn outcome_at(s: &[u8]) -> usize {
+    behind(next_place(s, 0, b'>'), 1)
+}
+
+// Where the memory after the call stands, behind the outcome.
+fn after_at(s: &[u8]) -> usize {
+    let numbers = numbers_at(s, outcome_at(s));
+    past_colon(s, numbers.next)
+}
+
+// Whether the outcome comes right behind this place.
+fn leads_on(s: &[u8], at: usize) -> bool {
+    past_arrow(s, at) == outcome_at(s)
+}
+
+// Whether the recorded outcome is this one.
+fn says(s: &[u8], said: Said) -> bool {
+    let values = said.values;
+    let at = outcome_at(s);
+    if said.number != number_of(s, at, 0) {
+        return false;
+    }
+    if values[0] != number_of(s, at, 1) {
+        return false;
+    }
+    if values[1] != number_of(s, at, 2) {
+        return false;
+    }
+    if values[2] != number_of(s, at, 3) {
+        return false;
+    }
+    if values[3] != number_of(s, at, 4) {
+        return false;
+    }
+    values[4] == number_of(s, at, 5)
+}
+
+// Where the memory after the call is to be read: that before it, if `=` says that it is as it was.
+fn left_at(s: &[u8], lent: usize) -> usize {
+    let at = after_at(s);
     if byte_at(s, at) == b'=' {
         return lent;
     }
     at
 }
 
-// Whether the line ends behind the memory after the call.
-fn ends(s: &[u8], at: usize, next: usize) -> bool {
+// Whether the line ends behind the memory after the call, which was read up to a place.
+fn ends(s: &[u8], next: usize) -> bool {
+    let at = after_at(s);
     if byte_at(s, at) == b'=' {
         return behind(at, 1) == s.len();
     }
     next == s.len()
 }
 
-// No memory was lent: whether the line ends here.
-fn left_nothing(s: &[u8], at: usize) -> Left {
-    Left {
-        good: at == s.len(),
-        same: true,
-    }
-}
-
 // Compares lent bytes with what the line has after the call.
-fn left_bytes(s: &[u8], at: usize, lent: usize, ours: &[u8]) -> Left {
+fn left_bytes(s: &[u8], lent: usize, ours: &[u8]) -> Left {
     let mut memory = room::for_bytes();
-    let after = bytes_at(s, left_at(s, at, lent), &mut memory);
+    let after = bytes_at(s, left_at(s, lent), &mut memory);
     Left {
-        good: after.good & ends(s, at, after.next),
-        same: same_bytes(ours, bytes_of(&memory, after.count)),
+        leaves: same_bytes(ours, bytes_of(&memory, after.count)),
+        good: after.good & ends(s, after.next),
     }
 }
 
-fn left_shorts(s: &[u8], at: usize, lent: usize, ours: &[u16]) -> Left {
+fn left_shorts(s: &[u8], lent: usize, ours: &[u16]) -> Left {
     let mut memory = room::for_shorts();
-    let after = shorts_at(s, left_at(s, at, lent), &mut memory);
+    let after = shorts_at(s, left_at(s, lent), &mut memory);
     Left {
-        good: after.good & ends(s, at, after.next),
-        same: same_shorts(ours, shorts_of(&memory, after.count)),
+        leaves: same_shorts(ours, shorts_of(&memory, after.count)),
+        good: after.good & ends(s, after.next),
     }
 }
 
-fn left_words(s: &[u8], at: usize, lent: usize, ours: &[i32]) -> Left {
+fn left_words(s: &[u8], lent: usize, ours: &[i32]) -> Left {
     let mut memory = room::for_words();
-    let after = words_at(s, left_at(s, at, lent), &mut memory);
+    let after = words_at(s, left_at(s, lent), &mut memory);
     Left {
-        good: after.good & ends(s, at, after.next),
-        same: same_words(ours, words_of(&memory, after.count)),
+        leaves: same_words(ours, words_of(&memory, after.count)),
+        good: after.good & ends(s, after.next),
     }
 }
 
-fn left_store(s: &[u8], at: usize, lent: usize, ours: &[u8]) -> Left {
+fn left_store(s: &[u8], lent: usize, ours: &[u8]) -> Left {
     let mut memory = room::for_store();
-    let after = store_at(s, left_at(s, at, lent), lent_bytes(&mut memory, ours.len()));
+    let after = store_at(s, left_at(s, lent), lent_bytes(&mut memory, ours.len()));
     Left {
-        good: after.good & ends(s, at, after.next),
-        same: same_bytes(ours, bytes_of(&memory, ours.len())),
+        leaves: same_bytes(ours, bytes_of(&memory, ours.len())),
+        good: after.good & ends(s, after.next),
     }
 }
 
-fn said_reading(call: usize, list: [u64; 6], bytes: &[u8]) -> Said {
+// The verdict on a line of which no memory is written.
+fn verdict_read(s: &[u8], said: Said, good: bool) -> Verdict {
+    let numbers = numbers_at(s, outcome_at(s));
+    Verdict {
+        readable: good & (numbers.next == s.len()),
+        says: says(s, said),
+        leaves: true,
+    }
+}
+
+// The verdict on a line of which memory is written; `good` says whether that before the call was readable.
+fn verdict_written(told: Told, left: Left, good: bool) -> Verdict {
+    Verdict {
+        readable: good & told.good & left.good,
+        says: told.says,
+        leaves: left.leaves,
+    }
+}
+
+fn said_reading(call: usize, s: &[u8], bytes: &[u8]) -> Said {
     if call == VERSION {
         return exports::bog_version(bytes);
     }
@@ -219,7 +228,7 @@ fn said_reading(call: usize, list: [u64; 6], bytes: &[u8]) -> Said {
         return exports::bog_padding(bytes);
     }
     if call == CHECK_PACKET {
-        return exports::bog_check_packet(bytes, list[0], byte_of(list[1]));
+        return exports::bog_check_packet(bytes, given(s, 0), byte_of(given(s, 1)));
     }
     if call == COMPOUND_PARSE {
         return exports::bog_compound_parse(bytes);
@@ -227,162 +236,146 @@ fn said_reading(call: usize, list: [u64; 6], bytes: &[u8]) -> Said {
     if call == UNKNOWN_PARSE {
         return exports::bog_unknown_parse(bytes);
     }
-    exports::bog_walk_step(bytes, list[0])
+    exports::bog_walk_step(bytes, given(s, 0))
 }
 
 // CALL NUMBERS : bytes -> OUTCOME
-fn reading(call: usize, s: &[u8], numbers: Numbers) -> Verdict {
+fn reading(call: usize, s: &[u8]) -> Verdict {
     let mut bytes = room::for_bytes();
-    let list = numbers.list;
-    let read = bytes_at(s, past_colon(s, numbers.next), &mut bytes);
-    let told = Told {
-        said: said_reading(call, list, bytes_of(&bytes, read.count)),
-        good: read.good,
-    };
-    let outcome = outcome_at(s, read.next);
-    let left = left_nothing(s, outcome.next);
-    weighed(told, outcome, left, true)
+    let read = bytes_at(s, first_at(s), &mut bytes);
+    let said = said_reading(call, s, bytes_of(&bytes, read.count));
+    verdict_read(s, said, read.good & leads_on(s, read.next))
 }
 
-fn told_unknown_write(s: &[u8], at: usize, list: [u64; 6], out: &mut [u8]) -> Told {
+fn told_unknown_write(s: &[u8], out: &mut [u8]) -> Told {
     let mut body = room::for_bytes();
-    let read = bytes_at(s, at, &mut body);
-    let count = byte_of(list[0]);
-    let kind = byte_of(list[1]);
-    let padding = byte_of(list[2]);
+    let read = bytes_at(s, first_at(s), &mut body);
+    let count = byte_of(given(s, 0));
+    let kind = byte_of(given(s, 1));
+    let padding = byte_of(given(s, 2));
+    let said = exports::bog_unknown_write(count, kind, bytes_of(&body, read.count), padding, out);
     Told {
-        said: exports::bog_unknown_write(count, kind, bytes_of(&body, read.count), padding, out),
+        says: says(s, said),
         good: read.good,
     }
 }
 
-fn told_nack_write(s: &[u8], at: usize, list: [u64; 6], out: &mut [u8]) -> Told {
+fn told_nack_write(s: &[u8], out: &mut [u8]) -> Told {
     let mut space = room::for_store();
-    let store = lent_bytes(&mut space, list[0] as usize);
-    let read = store_at(s, at, store);
+    let store = lent_bytes(&mut space, given(s, 0) as usize);
+    let read = store_at(s, first_at(s), store);
+    let said = exports::bog_nack_write(store, out);
     Told {
-        said: exports::bog_nack_write(store, out),
+        says: says(s, said),
         good: read.good,
     }
 }
 
-fn told_twcc_write(s: &[u8], at: usize, list: [u64; 6], out: &mut [u8]) -> Told {
-    let mut words = room::for_words();
-    let read = words_at(s, at, &mut words);
-    let base = short_of(list[0]);
-    let time = time_of(list[1]);
-    let feedback = byte_of(list[2]);
-    let limited = list[3] == 1;
-    let limit = list[4];
+fn said_twcc_write(s: &[u8], list: &[i32], out: &mut [u8]) -> Said {
+    let base = short_of(given(s, 0));
+    let time = time_of(given(s, 1));
+    let feedback = byte_of(given(s, 2));
+    exports::bog_twcc_write(
+        base,
+        time,
+        feedback,
+        list,
+        given(s, 3) == 1,
+        given(s, 4),
+        out,
+    )
+}
+
+fn told_twcc_write(s: &[u8], out: &mut [u8]) -> Told {
+    let mut list = room::for_words();
+    let read = words_at(s, first_at(s), &mut list);
+    let said = said_twcc_write(s, words_of(&list, read.count), out);
     Told {
-        said: exports::bog_twcc_write(
-            base,
-            time,
-            feedback,
-            words_of(&words, read.count),
-            limited,
-            limit,
-            out,
-        ),
+        says: says(s, said),
         good: read.good,
     }
 }
 
-fn told_writing(call: usize, s: &[u8], at: usize, list: [u64; 6], out: &mut [u8]) -> Told {
+fn told_writing(call: usize, s: &[u8], out: &mut [u8]) -> Told {
     if call == UNKNOWN_WRITE {
-        return told_unknown_write(s, at, list, out);
+        return told_unknown_write(s, out);
     }
     if call == NACK_WRITE {
-        return told_nack_write(s, at, list, out);
+        return told_nack_write(s, out);
     }
-    told_twcc_write(s, at, list, out)
+    told_twcc_write(s, out)
 }
 
 // CALL NUMBERS : memory : bytes -> OUTCOME : bytes
-fn writing(call: usize, s: &[u8], numbers: Numbers) -> Verdict {
+fn writing(call: usize, s: &[u8]) -> Verdict {
     let mut memory = room::for_bytes();
-    let list = numbers.list;
-    let input = past_colon(s, numbers.next);
-    let lent = past_colon(s, next_place(s, input, b' '));
+    let lent = second_at(s);
     let before = bytes_at(s, lent, &mut memory);
-    let told = told_writing(call, s, input, list, lent_bytes(&mut memory, before.count));
-    let outcome = outcome_at(s, before.next);
-    let at = past_colon(s, outcome.next);
-    let left = left_bytes(s, at, lent, bytes_of(&memory, before.count));
-    weighed(told, outcome, left, before.good)
+    let told = told_writing(call, s, lent_bytes(&mut memory, before.count));
+    let left = left_bytes(s, lent, bytes_of(&memory, before.count));
+    verdict_written(told, left, before.good & leads_on(s, before.next))
 }
 
 // nack_add number store_n : store -> OUTCOME : store
-fn adding(s: &[u8], numbers: Numbers) -> Verdict {
+fn adding(s: &[u8]) -> Verdict {
     let mut memory = room::for_store();
-    let list = numbers.list;
-    let length = list[1] as usize;
-    let lent = past_colon(s, numbers.next);
+    let length = given(s, 1) as usize;
+    let lent = first_at(s);
     let before = store_at(s, lent, lent_bytes(&mut memory, length));
+    let said = exports::bog_nack_add(lent_bytes(&mut memory, length), short_of(given(s, 0)));
     let told = Told {
-        said: exports::bog_nack_add(lent_bytes(&mut memory, length), short_of(list[0])),
+        says: says(s, said),
         good: before.good,
     };
-    let outcome = outcome_at(s, before.next);
-    let at = past_colon(s, outcome.next);
-    let left = left_store(s, at, lent, bytes_of(&memory, length));
-    weighed(told, outcome, left, true)
+    let left = left_store(s, lent, bytes_of(&memory, length));
+    verdict_written(told, left, leads_on(s, before.next))
 }
 
-fn told_nack_read(s: &[u8], at: usize, list: &mut [u16]) -> Told {
+fn told_nack_read(s: &[u8], list: &mut [u16]) -> Told {
     let mut bytes = room::for_bytes();
-    let read = bytes_at(s, at, &mut bytes);
+    let read = bytes_at(s, first_at(s), &mut bytes);
+    let said = exports::bog_nack_read(bytes_of(&bytes, read.count), list);
     Told {
-        said: exports::bog_nack_read(bytes_of(&bytes, read.count), list),
+        says: says(s, said),
         good: read.good,
     }
 }
 
 // nack_read : bytes : list -> OUTCOME : list
-fn nack_reading(s: &[u8], numbers: Numbers) -> Verdict {
+fn nack_reading(s: &[u8]) -> Verdict {
     let mut memory = room::for_shorts();
-    let input = past_colon(s, numbers.next);
-    let lent = past_colon(s, next_place(s, input, b' '));
+    let lent = second_at(s);
     let before = shorts_at(s, lent, &mut memory);
-    let told = told_nack_read(s, input, lent_shorts(&mut memory, before.count));
-    let outcome = outcome_at(s, before.next);
-    let at = past_colon(s, outcome.next);
-    let left = left_shorts(s, at, lent, shorts_of(&memory, before.count));
-    weighed(told, outcome, left, before.good)
+    let told = told_nack_read(s, lent_shorts(&mut memory, before.count));
+    let left = left_shorts(s, lent, shorts_of(&memory, before.count));
+    verdict_written(told, left, before.good & leads_on(s, before.next))
 }
 
-fn told_twcc_read(s: &[u8], at: usize, list: &mut [i32]) -> Told {
+fn told_twcc_read(s: &[u8], list: &mut [i32]) -> Told {
     let mut bytes = room::for_bytes();
-    let read = bytes_at(s, at, &mut bytes);
+    let read = bytes_at(s, first_at(s), &mut bytes);
+    let said = exports::bog_twcc_read(bytes_of(&bytes, read.count), list);
     Told {
-        said: exports::bog_twcc_read(bytes_of(&bytes, read.count), list),
+        says: says(s, said),
         good: read.good,
     }
 }
 
 // twcc_read : bytes : list -> OUTCOME : list
-fn twcc_reading(s: &[u8], numbers: Numbers) -> Verdict {
+fn twcc_reading(s: &[u8]) -> Verdict {
     let mut memory = room::for_words();
-    let input = past_colon(s, numbers.next);
-    let lent = past_colon(s, next_place(s, input, b' '));
+    let lent = second_at(s);
     let before = words_at(s, lent, &mut memory);
-    let told = told_twcc_read(s, input, lent_words(&mut memory, before.count));
-    let outcome = outcome_at(s, before.next);
-    let at = past_colon(s, outcome.next);
-    let left = left_words(s, at, lent, words_of(&memory, before.count));
-    weighed(told, outcome, left, before.good)
+    let told = told_twcc_read(s, lent_words(&mut memory, before.count));
+    let left = left_words(s, lent, words_of(&memory, before.count));
+    verdict_written(told, left, before.good & leads_on(s, before.next))
 }
 
 // arrival time delta -> OUTCOME
-fn arriving(s: &[u8], numbers: Numbers) -> Verdict {
-    let list = numbers.list;
-    let told = Told {
-        said: exports::bog_arrival(time_of(list[0]), delta_of(list[1])),
-        good: true,
-    };
-    let outcome = outcome_at(s, numbers.next);
-    let left = left_nothing(s, outcome.next);
-    weighed(told, outcome, left, true)
+fn arriving(s: &[u8]) -> Verdict {
+    let said = exports::bog_arrival(time_of(given(s, 0)), delta_of(given(s, 1)));
+    let numbers = numbers_at(s, next_place(s, 0, b' '));
+    verdict_read(s, said, leads_on(s, numbers.next))
 }
 
 // Whether a 64-bit two's complement is a number of 16 bits.
@@ -390,62 +383,69 @@ fn is_delta(n: u64) -> bool {
     (n < 32768) | (n >= 18446744073709518848)
 }
 
-// Whether these are the numbers of a call: as many, and each in the range of its type.
-fn are_numbers_of(call: usize, numbers: Numbers) -> bool {
-    let list = numbers.list;
-    let count = numbers.count;
+// Whether the numbers that the call is given are in the ranges of their types.
+fn in_range(call: usize, s: &[u8]) -> bool {
     if call == CHECK_PACKET {
-        return (count == 2) & (list[1] < 256);
-    }
-    if call == WALK_STEP {
-        return count == 1;
+        return given(s, 1) < 256;
     }
     if call == UNKNOWN_WRITE {
-        return (count == 3) & (list[0] < 256) & (list[1] < 256) & (list[2] < 256);
+        return (given(s, 0) < 256) & (given(s, 1) < 256) & (given(s, 2) < 256);
     }
     if call == NACK_ADD {
-        return (count == 2) & (list[0] < 65536) & (list[1] <= 16384);
+        return (given(s, 0) < 65536) & (given(s, 1) <= 16384);
     }
     if call == NACK_WRITE {
-        return (count == 1) & (list[0] <= 16384);
+        return given(s, 0) <= 16384;
     }
     if call == TWCC_WRITE {
-        let small = (list[0] < 65536) & (list[1] < 4294967296) & (list[2] < 256);
-        return (count == 5) & small & (list[3] < 2);
+        let small = (given(s, 0) < 65536) & (given(s, 1) < 4294967296);
+        return small & (given(s, 2) < 256) & (given(s, 3) < 2);
     }
     if call == ARRIVAL {
-        return (count == 2) & (list[0] < 4294967296) & is_delta(list[1]);
+        return (given(s, 0) < 4294967296) & is_delta(given(s, 1));
     }
-    count == 0
+    true
 }
 
-fn verdict_of(call: usize, s: &[u8], numbers: Numbers) -> Verdict {
+// How many numbers a call is given.
+fn count_of(call: usize) -> usize {
+    match call {
+        CHECK_PACKET | NACK_ADD | ARRIVAL => 2,
+        WALK_STEP | NACK_WRITE => 1,
+        UNKNOWN_WRITE => 3,
+        TWCC_WRITE => 5,
+        _ => 0,
+    }
+}
+
+fn verdict_of(call: usize, s: &[u8]) -> Verdict {
     if call <= WALK_STEP {
-        return reading(call, s, numbers);
+        return reading(call, s);
     }
     if call == NACK_ADD {
-        return adding(s, numbers);
+        return adding(s);
     }
     if call == NACK_READ {
-        return nack_reading(s, numbers);
+        return nack_reading(s);
     }
     if call == TWCC_READ {
-        return twcc_reading(s, numbers);
+        return twcc_reading(s);
     }
     if call == ARRIVAL {
-        return arriving(s, numbers);
+        return arriving(s);
     }
-    writing(call, s, numbers)
+    writing(call, s)
 }
 
 // Runs the line of a call.
 pub fn run(call: usize, s: &[u8]) -> Verdict {
     let numbers = numbers_at(s, next_place(s, 0, b' '));
-    let found = verdict_of(call, s, numbers);
-    let said = found.said;
+    let outcome = numbers_at(s, outcome_at(s));
+    let good = (numbers.count == count_of(call)) & (outcome.count > 0) & in_range(call, s);
+    let found = verdict_of(call, s);
     Verdict {
-        said: said,
-        readable: found.readable & are_numbers_of(call, numbers),
-        agrees: found.agrees,
+        readable: found.readable & good,
+        says: found.says,
+        leaves: found.leaves,
     }
 }

@@ -8,95 +8,90 @@ mod number;
 mod report;
 mod room;
 
-use call::TOTAL;
 use line::behind;
 use line::byte_at;
 use line::next_place;
-use line::opens_with;
 use memory::bytes_of;
-use name::call_of;
+use name::ENDS;
+use name::NONE;
+use name::TOTAL;
+use name::WRONG;
+use name::row_of;
+use number::number_of;
 use number::numbers_at;
-use report::say;
-use report::say_line;
+use report::AGREES;
+use report::CUT;
+use report::LEAVES;
+use report::MISCOUNTS;
+use report::SAYS;
+use report::UNREADABLE;
+use report::say_disagreement;
+use report::say_head;
 use report::say_row;
-use report::say_said;
-
-// The rows of the two counts: one for each call, then the ends met, then the total.
-const ENDS: usize = 17;
-
-const ROWS: usize = 19;
 
 // How many disagreements are shown.
 const SHOWN: u64 = 20;
 
-fn count_in(counts: &mut [u64; 19], row: usize) {
-    if row < ROWS {
+// What is wrong with the last line, which counts the cases.
+fn judge_end(s: &[u8], cases: u64) -> u8 {
+    let numbers = numbers_at(s, 3);
+    let good = (numbers.count == 1) & (numbers.next == s.len());
+    if good & (number_of(s, 3, 0) == cases) {
+        return AGREES;
+    }
+    MISCOUNTS
+}
+
+// What is wrong with a line of a row, behind so many cases.
+fn judge(row: usize, s: &[u8], cases: u64) -> u8 {
+    if row == NONE {
+        return UNREADABLE;
+    }
+    if row == ENDS {
+        return judge_end(s, cases);
+    }
+    let verdict = call::run(row, s);
+    if !verdict.readable {
+        return UNREADABLE;
+    }
+    if !verdict.says {
+        return SAYS;
+    }
+    if !verdict.leaves {
+        return LEAVES;
+    }
+    AGREES
+}
+
+fn count_in(counts: &mut [u64; 38], row: usize) {
+    if row < 38 {
         counts[row] = std::num::wrapping_add_u64(counts[row], 1);
     }
 }
 
-// Counts a disagreement of a row, and answers whether it is among those to show.
-fn is_shown(wrong: &mut [u64; 19], row: usize) -> bool {
-    let shown = wrong[TOTAL] < SHOWN;
-    count_in(wrong, row);
-    count_in(wrong, TOTAL);
-    shown
-}
-
-fn unreadable(line: u64, row: usize, wrong: &mut [u64; 19]) {
-    if is_shown(wrong, row) {
-        say_line(line);
-        say(b"can't be read\n");
+// Counts a line, and shows what is wrong with it if it is among the first.
+fn count(counts: &mut [u64; 38], line: u64, row: usize, what: u8) {
+    count_in(counts, row);
+    if row != ENDS {
+        count_in(counts, TOTAL);
     }
-}
-
-// The last line, which counts the cases.
-fn end(s: &[u8], line: u64, cases: &mut [u64; 19], wrong: &mut [u64; 19]) {
-    let numbers = numbers_at(s, 3);
-    let list = numbers.list;
-    let good = (numbers.count == 1) & (numbers.next == s.len()) & (list[0] == cases[TOTAL]);
-    count_in(cases, ENDS);
-    if !good {
-        if is_shown(wrong, ENDS) {
-            say_line(line);
-            say(b"counts other cases than there are\n");
-        }
-    }
-}
-
-// The line of a case.
-fn case(s: &[u8], line: u64, cases: &mut [u64; 19], wrong: &mut [u64; 19]) {
-    let row = call_of(s);
-    count_in(cases, row);
-    count_in(cases, TOTAL);
-    if row == call::NONE {
-        unreadable(line, row, wrong);
+    if what == AGREES {
         return;
     }
-    let verdict = call::run(row, s);
-    if !verdict.readable {
-        unreadable(line, row, wrong);
-        return;
-    }
-    if verdict.agrees {
-        return;
-    }
-    if is_shown(wrong, row) {
-        let said = verdict.said;
-        say_line(line);
-        say_said(row, said);
+    count_in(counts, behind(row, WRONG));
+    count_in(counts, TOTAL + WRONG);
+    if counts[37] <= SHOWN {
+        say_disagreement(line, row, what);
     }
 }
 
-fn enter(s: &[u8], line: u64, cases: &mut [u64; 19], wrong: &mut [u64; 19]) {
+fn enter(s: &[u8], line: u64, counts: &mut [u64; 38]) {
     if byte_at(s, 0) == b'#' {
         return;
     }
-    if opens_with(s, b"end") {
-        end(s, line, cases, wrong);
-        return;
-    }
-    case(s, line, cases, wrong);
+    let row = row_of(s);
+    let what = judge(row, s, counts[18]);
+    count(counts, line, row, what);
 }
 
 // The bytes from a place to another, which is not before it.
@@ -110,7 +105,7 @@ fn part(s: &[u8], from: usize, to: usize) -> &[u8] {
 }
 
 // All lines, each of a byte or more with its newline.
-fn replay(text: &[u8], cases: &mut [u64; 19], wrong: &mut [u64; 19]) {
+fn replay(text: &[u8], counts: &mut [u64; 38]) {
     let mut line: u64 = 0;
     let mut at = 0;
     let mut turns = text.len();
@@ -120,42 +115,38 @@ fn replay(text: &[u8], cases: &mut [u64; 19], wrong: &mut [u64; 19]) {
         }
         let to = next_place(text, at, b'\n');
         line = std::num::wrapping_add_u64(line, 1);
-        enter(part(text, at, to), line, cases, wrong);
+        enter(part(text, at, to), line, counts);
         at = behind(to, 1);
         turns -= 1;
     }
 }
 
-fn table(cases: &[u64; 19], wrong: &[u64; 19]) {
-    say(b"  cases  disagreements  call\n");
+fn table(counts: &[u64; 38]) {
+    say_head();
     let mut row = 0;
     while row < ENDS {
-        say_row(row, cases[row], wrong[row]);
+        say_row(row, counts[row], counts[row + WRONG]);
         row += 1;
     }
-    say_row(TOTAL, cases[TOTAL], wrong[TOTAL]);
+    say_row(TOTAL, counts[18], counts[37]);
 }
 
 fn replay_whole(text: &[u8]) {
-    let mut cases = [0u64; 19];
-    let mut wrong = [0u64; 19];
-    replay(text, &mut cases, &mut wrong);
-    if cases[ENDS] != 1 {
-        is_shown(&mut wrong, ENDS);
-        say(b"the recording is cut short: it has no last line\n");
+    let mut counts = [0u64; 38];
+    replay(text, &mut counts);
+    if counts[17] != 1 {
+        count(&mut counts, 0, ENDS, CUT);
     }
-    table(&cases, &wrong);
+    table(&counts);
 }
 
 // A recording that fills the room may go on.
 fn replay_file(fd: i32) {
     let mut text = room::for_text();
     let n = io::read_full(fd, &mut text);
-    if n >= 1048576 {
-        say(b"the recording is too long\n");
-        return;
+    if n < 1048576 {
+        replay_whole(bytes_of(&text, n));
     }
-    replay_whole(bytes_of(&text, n));
 }
 
 fn main() {

@@ -81,7 +81,7 @@ fn times(s: &[u8], value: u64, at: usize) -> Run {
         value: value,
         left: count.value as usize,
         next: past_comma(s, count.next),
-        good: count.good,
+        good: count.good & (count.value > 0),
     }
 }
 

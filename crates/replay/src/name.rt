@@ -1,10 +1,19 @@
-// The calls by name.
+// The rows of the counts, by name: one for each call, then the last line, then the total; NONE is no row. The disagreements are
+// counted as many rows behind.
 use crate::call;
 use crate::line::opens_with;
 use crate::report::say;
 
-// The call that a line opens with; `call::NONE` for any other word.
-pub fn call_of(s: &[u8]) -> usize {
+pub const ENDS: usize = 17;
+
+pub const TOTAL: usize = 18;
+
+pub const NONE: usize = 99;
+
+pub const WRONG: usize = 19;
+
+// The row of the word that a line opens with.
+pub fn row_of(s: &[u8]) -> usize {
     if opens_with(s, b"version") {
         return call::VERSION;
     }
@@ -56,63 +65,68 @@ pub fn call_of(s: &[u8]) -> usize {
     if opens_with(s, b"arrival") {
         return call::ARRIVAL;
     }
-    call::NONE
+    if opens_with(s, b"end") {
+        return ENDS;
+    }
+    NONE
 }
 
-// The name of a row: a call, or the total.
-pub fn say_call(row: usize) {
+pub fn say_name(row: usize) {
     if row == call::VERSION {
-        say(b"version");
+        return say(b"version");
     }
     if row == call::PADDING_BIT {
-        say(b"padding_bit");
+        return say(b"padding_bit");
     }
     if row == call::COUNT {
-        say(b"count");
+        return say(b"count");
     }
     if row == call::PACKET_TYPE {
-        say(b"packet_type");
+        return say(b"packet_type");
     }
     if row == call::LENGTH {
-        say(b"length");
+        return say(b"length");
     }
     if row == call::PADDING {
-        say(b"padding");
+        return say(b"padding");
     }
     if row == call::CHECK_PACKET {
-        say(b"check_packet");
+        return say(b"check_packet");
     }
     if row == call::COMPOUND_PARSE {
-        say(b"compound_parse");
+        return say(b"compound_parse");
     }
     if row == call::UNKNOWN_PARSE {
-        say(b"unknown_parse");
+        return say(b"unknown_parse");
     }
     if row == call::WALK_STEP {
-        say(b"walk_step");
+        return say(b"walk_step");
     }
     if row == call::UNKNOWN_WRITE {
-        say(b"unknown_write");
+        return say(b"unknown_write");
     }
     if row == call::NACK_ADD {
-        say(b"nack_add");
+        return say(b"nack_add");
     }
     if row == call::NACK_READ {
-        say(b"nack_read");
+        return say(b"nack_read");
     }
     if row == call::NACK_WRITE {
-        say(b"nack_write");
+        return say(b"nack_write");
     }
     if row == call::TWCC_READ {
-        say(b"twcc_read");
+        return say(b"twcc_read");
     }
     if row == call::TWCC_WRITE {
-        say(b"twcc_write");
+        return say(b"twcc_write");
     }
     if row == call::ARRIVAL {
-        say(b"arrival");
+        return say(b"arrival");
     }
-    if row == call::TOTAL {
-        say(b"total");
+    if row == ENDS {
+        return say(b"end");
+    }
+    if row == TOTAL {
+        return say(b"total");
     }
 }

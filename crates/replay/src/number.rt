@@ -9,9 +9,8 @@ pub struct Digits {
     pub good: bool,
 }
 
-// Up to six numbers, how many there were, and the place behind them.
+// Up to six numbers: how many, and the place behind them.
 pub struct Numbers {
-    pub list: [u64; 6],
     pub count: usize,
     pub next: usize,
 }
@@ -78,9 +77,19 @@ fn spaced_number_at(s: &[u8], at: usize) -> Digits {
     number_at(s, behind(at, 1))
 }
 
-// Up to six numbers, each behind one space.
+// The number so far behind the first of those that stand from a place on, each behind one space; 0 where there are fewer.
+pub fn number_of(s: &[u8], from: usize, place: usize) -> u64 {
+    let mut number = spaced_number_at(s, from);
+    let mut i = 0;
+    while i < place {
+        number = spaced_number_at(s, number.next);
+        i += 1;
+    }
+    number.value
+}
+
+// How many numbers stand from a place on, each behind one space, and the place behind them.
 pub fn numbers_at(s: &[u8], from: usize) -> Numbers {
-    let mut list = [0u64; 6];
     let mut count = 0;
     let mut at = from;
     while count < 6 {
@@ -88,12 +97,10 @@ pub fn numbers_at(s: &[u8], from: usize) -> Numbers {
         if !number.good {
             break;
         }
-        list[count] = number.value;
         count += 1;
         at = number.next;
     }
     Numbers {
-        list: list,
         count: count,
         next: at,
     }

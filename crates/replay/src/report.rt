@@ -1,7 +1,19 @@
 // What the program prints: a line for each of the first disagreements, and the table.
-use crate::name::say_call;
-use exports::Said;
+use crate::name::say_name;
 use libc::STDOUT_FILENO;
+
+// What can be wrong with a line.
+pub const AGREES: u8 = 0;
+
+pub const UNREADABLE: u8 = 1;
+
+pub const SAYS: u8 = 2;
+
+pub const LEAVES: u8 = 3;
+
+pub const MISCOUNTS: u8 = 4;
+
+pub const CUT: u8 = 5;
 
 pub fn say(text: &[u8]) {
     io::write_all(STDOUT_FILENO, text);
@@ -11,61 +23,58 @@ fn say_number(n: u64) {
     io::print_decimal(STDOUT_FILENO, n);
 }
 
-// A number in a column of seven.
+// A number in a column of six.
 fn say_column(n: u64) {
-    if n < 1000000 {
-        say(b" ");
-    }
-    if n < 100000 {
-        say(b" ");
-    }
-    if n < 10000 {
-        say(b" ");
-    }
-    if n < 1000 {
-        say(b" ");
+    if n < 10 {
+        say(b"     ");
+        return say_number(n);
     }
     if n < 100 {
-        say(b" ");
+        say(b"    ");
+        return say_number(n);
     }
-    if n < 10 {
-        say(b" ");
+    if n < 1000 {
+        say(b"   ");
+        return say_number(n);
     }
+    say(b"  ");
     say_number(n);
 }
 
-fn say_value(n: u64) {
-    say(b" ");
-    say_number(n);
+fn say_what(what: u8) {
+    if what == UNREADABLE {
+        return say(b" can't be read\n");
+    }
+    if what == SAYS {
+        return say(b" says something else\n");
+    }
+    if what == LEAVES {
+        return say(b" leaves something else\n");
+    }
+    if what == MISCOUNTS {
+        return say(b" has another count\n");
+    }
+    say(b" is missing\n");
 }
 
-pub fn say_line(line: u64) {
+pub fn say_disagreement(line: u64, row: usize, what: u8) {
     say(b"line ");
     say_number(line);
     say(b": ");
+    say_name(row);
+    say_what(what);
 }
 
-// What our code says where something else is recorded.
-pub fn say_said(call: usize, said: Said) {
-    let values = said.values;
-    say_call(call);
-    say(b" disagrees; ours says");
-    say_value(said.number);
-    say(b",");
-    say_value(values[0]);
-    say_value(values[1]);
-    say_value(values[2]);
-    say_value(values[3]);
-    say_value(values[4]);
-    say(b"\n");
+pub fn say_head() {
+    say(b" cases  disagreements  call\n");
 }
 
 // A row of the table.
 pub fn say_row(row: usize, cases: u64, wrong: u64) {
     say_column(cases);
-    say(b"        ");
+    say(b"         ");
     say_column(wrong);
     say(b"  ");
-    say_call(row);
+    say_name(row);
     say(b"\n");
 }

@@ -30,7 +30,11 @@ pub const OPENING: &str = "\
 # NUMBER is 0 for an answer, else the refusal's; VALUES not given are 0. Every number is decimal, a signed one with its minus.
 # Bytes are hex, two digits each; a list is numbers with commas between; a NACK store is the list of the numbers that it holds, and
 # its length stands among NUMBERS. x*n is n times x, in bytes with a comma behind it where more follow. - is empty memory, and = in
-# LEFT is memory that is as it was.
+# LEFT is memory that is as it was. So this call, of nine words under a limit of 12 bytes and into 14,
+#
+#   twcc_write 1 0 0 1 12 : 0*9 : 17a0c5d2e9340b6681f0ffeeddcc -> 0 12 1 : 000100010000000020010000ddcc
+#
+# answers 12 bytes and 1 entry, and the last two bytes of its buffer stay.
 ";
 
 /// What a call is lent.
@@ -84,20 +88,20 @@ fn runs<T: PartialEq>(elements: &[T]) -> impl Iterator<Item = (&T, usize)> {
 }
 
 /// Bytes as pairs of hex digits; a run of six or more as one pair and its length.
-pub fn hex(bytes: &[u8]) -> String {
+fn hex(bytes: &[u8]) -> String {
     let mut text = String::new();
+    let mut behind_a_length = false;
     for (byte, times) in runs(bytes) {
-        if text.ends_with(|last: char| !last.is_ascii_hexdigit()) {
-            text.pop();
+        if behind_a_length {
             text.push(',');
         }
-        let pair = format!("{byte:02x}");
-        match times {
-            0..=5 => text.push_str(&pair.repeat(times)),
-            _ => write!(text, "{pair}*{times};").expect("a string takes all"),
-        }
+        behind_a_length = times > 5;
+        text += &match behind_a_length {
+            true => format!("{byte:02x}*{times}"),
+            false => format!("{byte:02x}").repeat(times),
+        };
     }
-    or_empty(text.trim_end_matches(';').to_string())
+    or_empty(text)
 }
 
 /// Numbers with commas between; a run of three or more as one number and its length.

@@ -5,16 +5,13 @@ use Rattle.replay.proofs.table.Statement.{statement}
 use Rattle.replay.proofs.table.Tie as tie
 
 abbrev Inv-loop : tie.InvT-loop
-Inv-loop cases wrong row₀ row = Unit {0}
+Inv-loop counts row₀ row = Unit {0}
 
 abbrev μ-loop : tie.MeasureT-loop
-μ-loop cases wrong row₀ row = 17 - row
+μ-loop counts row₀ row = 17 - row
 
-slice-aggregate-say : tie.Need-slice-aggregate-say Inv-loop μ-loop
-slice-aggregate-say c = search needs
-
-say-requires : tie.Need-say-requires Inv-loop μ-loop
-say-requires c κs = search needs
+say-head-requires : tie.Need-say-head-requires Inv-loop μ-loop
+say-head-requires c κs = search needs
 
 loop-holds : tie.Need-loop-holds Inv-loop μ-loop
 loop-holds c = search needs
@@ -24,6 +21,9 @@ mul-say-row c = search needs
 
 element-copy-out-say-row : tie.Need-element-copy-out-say-row Inv-loop μ-loop
 element-copy-out-say-row c = search needs
+
+add-say-row : tie.Need-add-say-row Inv-loop μ-loop
+add-say-row c = search needs
 
 mul-say-row-2 : tie.Need-mul-say-row-2 Inv-loop μ-loop
 mul-say-row-2 c = search needs
@@ -61,11 +61,11 @@ table-spec =
     (tie.spec
     Inv-loop
     μ-loop
-    slice-aggregate-say
-    say-requires
+    say-head-requires
     loop-holds
     mul-say-row
     element-copy-out-say-row
+    add-say-row
     mul-say-row-2
     element-copy-out-say-row-2
     say-row-requires

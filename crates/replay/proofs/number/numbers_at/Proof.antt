@@ -1,28 +1,20 @@
--- The list keeps its six places.
+-- There are six at most.
 use Prim.Native.Nat.{_-_}
-use mathlib.Core.Path.{_≡_}
-use lib.ListN.{length}
 use borrow.Author.Needs.{needs}
 use Rattle.replay.proofs.number.numbers_at.Statement.{statement}
 use Rattle.replay.proofs.number.numbers_at.Tie as tie
 
 abbrev Inv-loop : tie.InvT-loop
-Inv-loop s from list₀ count₀ at₀ list count at = length list ≡ 6
+Inv-loop s from count₀ at₀ count at = Unit {0}
 
 abbrev μ-loop : tie.MeasureT-loop
-μ-loop s from list₀ count₀ at₀ list count at = 6 - count
+μ-loop s from count₀ at₀ count at = 6 - count
 
 loop-holds : tie.Need-loop-holds Inv-loop μ-loop
 loop-holds c = search needs
 
 spaced-number-at-requires : tie.Need-spaced-number-at-requires Inv-loop μ-loop
 spaced-number-at-requires c κs = search needs
-
-mul-list : tie.Need-mul-list Inv-loop μ-loop
-mul-list c = search needs
-
-array-write-list : tie.Need-array-write-list Inv-loop μ-loop
-array-write-list c = search needs
 
 add-count : tie.Need-add-count Inv-loop μ-loop
 add-count c = search needs
@@ -47,8 +39,6 @@ numbers-at-spec =
     μ-loop
     loop-holds
     spaced-number-at-requires
-    mul-list
-    array-write-list
     add-count
     loop-less
     loop-again
