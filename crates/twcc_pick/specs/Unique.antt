@@ -1,5 +1,5 @@
 -- No slack: two answers about the same list are equal.
-use Prim.Native.Nat.{ℕ, _≤_}
+use Prim.Native.Nat.{ℕ, _%_, _≤_}
 use mathlib.Core.Path.{_≡_, sym, _∙_}
 use mathlib.Core.List.{List, map}
 use lib.IntN.{ℤ}
@@ -15,6 +15,9 @@ pick-unique rest a b one two = one ∙ sym two
 
 pub symbol-unique : (list : List ℤ) (at a b : ℕ) → (a ≡ getD (map symbolOf list) at 0) × (a ≤ 2) → (b ≡ getD (map symbolOf list) at 0) × (b ≤ 2) → a ≡ b
 symbol-unique list at a b one two = one .0 ∙ sym (two .0)
+
+pub small-unique : (list : List ℤ) (at a b : ℕ) → a ≡ getD (map symbolOf list) at 0 % 2 → b ≡ getD (map symbolOf list) at 0 % 2 → a ≡ b
+small-unique list at a b one two = one ∙ sym two
 
 pub first-bad-unique : (list : List ℤ) (a b : ℕ) → a ≡ firstBad list → b ≡ firstBad list → a ≡ b
 first-bad-unique list a b one two = one ∙ sym two

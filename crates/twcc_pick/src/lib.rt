@@ -33,7 +33,7 @@ fn symbol(word: i32) -> u32
 }
 
 // The symbol at a place of the list. Symbols are counted in 32 bits, so that four go into a vector.
-pub fn symbol_in(list: &[i32], at: usize) -> u32
+fn symbol_in(list: &[i32], at: usize) -> u32
     requires { ⌜ at < length (now list) ⌝ }
     ensures { λ r. ⌜ (r ≡ getD (map symbolOf (now (list .entry))) at 0) × (r ≤ 2) ⌝ }
 {
@@ -49,7 +49,7 @@ fn small(word: i32) -> u32
 }
 
 // The same of the word at a place.
-pub fn small_in(list: &[i32], at: usize) -> u32
+fn small_in(list: &[i32], at: usize) -> u32
     requires { ⌜ at < length (now list) ⌝ }
     ensures { λ r. ⌜ r ≡ getD (map symbolOf (now (list .entry))) at 0 % 2 ⌝ }
 {
@@ -78,6 +78,17 @@ pub fn symbol_at(list: &[i32], at: usize) -> usize
     ensures { λ r. ⌜ (r ≡ getD (map symbolOf (now (list .entry))) at 0) × (r ≤ 2) ⌝ }
 {
     wide(symbol_or_lost(list, at))
+}
+
+// 1 for a small delta at a place, else 0.
+pub fn small_at(list: &[i32], at: usize) -> usize
+    ensures { λ r. ⌜ r ≡ getD (map symbolOf (now (list .entry))) at 0 % 2 ⌝ }
+{
+    if at < list.len() {
+        wide(small_in(list, at))
+    } else {
+        0
+    }
 }
 
 fn lesser(a: usize, b: usize) -> usize

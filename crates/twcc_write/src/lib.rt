@@ -78,19 +78,13 @@ fn put_delta(list: &[i32], n: usize, out: &mut [u8], at: usize) -> usize
     at + 2
 }
 
-fn sized(x: u32) -> usize
-    ensures { λ r. ⌜ r ≡ x ⌝ }
-{
-    x as usize
-}
-
 // The same without a jump by symbol: two bytes are stored, and those that are too many are stored over by what follows, up
 // to a place `end`.
 fn put_two(list: &[i32], n: usize, out: &mut [u8], at: usize, end: usize) -> usize
     requires { ⌜ (DeltaStorable (now list) n (now out) at) × (at + 2 ≤ end) × (end ≤ length (now out)) ⌝ }
     ensures { λ r. ⌜ QuickStored (now (list .entry)) n (now (out .entry)) at end r (now (out .exit)) ⌝ }
 {
-    let symbol = sized(twcc_pick::symbol_in(list, n));
+    let symbol = twcc_pick::symbol_at(list, n);
     let bits = low_at(list, n);
     out[at] = leading(symbol, bits) as u8;
     out[at + 1] = (bits % 256) as u8;
@@ -103,7 +97,7 @@ fn put_one(list: &[i32], n: usize, out: &mut [u8], at: usize, end: usize) -> usi
     ensures { λ r. ⌜ QuickStored (now (list .entry)) n (now (out .entry)) at end r (now (out .exit)) ⌝ }
 {
     out[at] = (low_at(list, n) % 256) as u8;
-    at + sized(twcc_pick::small_in(list, n))
+    at + twcc_pick::small_at(list, n)
 }
 
 // The same where two bytes may be too many.

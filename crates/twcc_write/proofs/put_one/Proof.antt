@@ -21,11 +21,8 @@ cast-out c = search needs
 slice-write-out : tie.Need-slice-write-out
 slice-write-out c = search needs
 
-small-in-requires : tie.Need-small-in-requires
-small-in-requires c κs = search needs
-
-sized-requires : tie.Need-sized-requires
-sized-requires c κs = search needs
+small-at-requires : tie.Need-small-at-requires
+small-at-requires c κs = search needs
 
 add-result : tie.Need-add-result
 add-result c = search needs
@@ -35,12 +32,12 @@ same-length c = search needs
 
 returns : tie.Need-returns
 returns c =
-    let s = c .before .before .before .before in
+    let s = c .before .before .before in
     let symbol = symbolOf (wordAt (now (s .args .list)) (s .args .n)) in
-    let bit : c .sized .result ≡ symbol % 2 =
-    c .sized .ensures ∙ c .before .small-in .ensures ∙ ap (λ (k : ℕ). k % 2) (sym (symbol-there (now (s .args .list)) (s .args .n) (pos 0) (s .pre .0 .inside))) in
+    let bit : c .small-at .result ≡ symbol % 2 =
+    c .small-at .ensures ∙ ap (λ (k : ℕ). k % 2) (sym (symbol-there (now (s .args .list)) (s .args .n) (pos 0) (s .pre .0 .inside))) in
     let few = s .pre .1 in
-    single-stored (now (s .args .list)) _ _ _ _ _ _ (omega arith) (c .before .before .low-at .ensures) (omega arith) (s .pre .2)
+    single-stored (now (s .args .list)) _ _ _ _ _ _ (omega arith) (c .before .low-at .ensures) (omega arith) (s .pre .2)
 
 pub put-one-spec : {M : Type 1} → statement M
 put-one-spec =
@@ -49,8 +46,7 @@ put-one-spec =
     low-at-requires
     cast-out
     slice-write-out
-    small-in-requires
-    sized-requires
+    small-at-requires
     add-result
     same-length
     returns)

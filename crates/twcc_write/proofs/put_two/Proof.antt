@@ -13,11 +13,8 @@ use Rattle.twcc_write.proofs.Spreading.{leading-lt, quick-stored}
 use Rattle.twcc_write.proofs.put_two.Statement.{statement}
 use Rattle.twcc_write.proofs.put_two.Tie as tie
 
-symbol-in-requires : tie.Need-symbol-in-requires
-symbol-in-requires c κs = search needs
-
-sized-requires : tie.Need-sized-requires
-sized-requires c κs = search needs
+symbol-at-requires : tie.Need-symbol-at-requires
+symbol-at-requires c κs = search needs
 
 low-at-requires : tie.Need-low-at-requires
 low-at-requires c κs = search needs
@@ -27,9 +24,9 @@ leading-requires c κs = search needs
 
 cast-out : tie.Need-cast-out
 cast-out c =
-    let s = c .before .before .before .before .before in
+    let s = c .before .before .before .before in
     let bits : c .before .low-at .result < 65536 = omega (arith, bits-lt (wordAt (now (s .args .list)) (s .args .n)) (s .pre .0 .valid), c .before .low-at .ensures) in
-    omega (arith, leading-lt (c .before .before .sized .result) (c .before .low-at .result) bits, c .leading .ensures)
+    omega (arith, leading-lt (c .before .before .symbol-at .result) (c .before .low-at .result) bits, c .leading .ensures)
 
 slice-write-out : tie.Need-slice-write-out
 slice-write-out c = search needs
@@ -41,7 +38,7 @@ add-out : tie.Need-add-out
 add-out c = search needs
 
 slice-write-out-2 : tie.Need-slice-write-out-2
-slice-write-out-2 c = let s = c .before .before .before .before .before in simp length-set (omega (arith, s .pre .1, s .pre .2))
+slice-write-out-2 c = let s = c .before .before .before .before in simp length-set (omega (arith, s .pre .1, s .pre .2))
 
 add-result : tie.Need-add-result
 add-result c = search needs
@@ -51,16 +48,15 @@ same-length c = search needs
 
 returns : tie.Need-returns
 returns c =
-    let s = c .before .before .before .before .before in
-    let symbol = c .before .before .sized .ensures ∙ c .before .before .before .symbol-in .ensures .0 ∙ sym (symbol-there (now (s .args .list)) (s .args .n) (pos 0) (s .pre .0 .inside)) in
+    let s = c .before .before .before .before in
+    let symbol = c .before .before .symbol-at .ensures .0 ∙ sym (symbol-there (now (s .args .list)) (s .args .n) (pos 0) (s .pre .0 .inside)) in
     quick-stored (now (s .args .list)) _ _ _ _ _ _ _ symbol (c .before .low-at .ensures) (c .leading .ensures) (s .pre .1)
 
 pub put-two-spec : {M : Type 1} → statement M
 put-two-spec =
     tie.close
     (tie.spec
-    symbol-in-requires
-    sized-requires
+    symbol-at-requires
     low-at-requires
     leading-requires
     cast-out
