@@ -16,8 +16,11 @@ pick-unique rest a b one two = one ∙ sym two
 pub symbol-unique : (list : List ℤ) (at a b : ℕ) → (a ≡ getD (map symbolOf list) at 0) × (a ≤ 2) → (b ≡ getD (map symbolOf list) at 0) × (b ≤ 2) → a ≡ b
 symbol-unique list at a b one two = one .0 ∙ sym (two .0)
 
-pub small-unique : (list : List ℤ) (at a b : ℕ) → a ≡ getD (map symbolOf list) at 0 % 2 → b ≡ getD (map symbolOf list) at 0 % 2 → a ≡ b
-small-unique list at a b one two = one ∙ sym two
+pub word-symbol-unique : (word : ℤ) (a b : ℕ) → (a ≡ symbolOf word) × (a ≤ 2) → (b ≡ symbolOf word) × (b ≤ 2) → a ≡ b
+word-symbol-unique word a b one two = one .0 ∙ sym (two .0)
+
+pub small-unique : (word : ℤ) (a b : ℕ) → a ≡ symbolOf word % 2 → b ≡ symbolOf word % 2 → a ≡ b
+small-unique word a b one two = one ∙ sym two
 
 pub first-bad-unique : (list : List ℤ) (a b : ℕ) → a ≡ firstBad list → b ≡ firstBad list → a ≡ b
 first-bad-unique list a b one two = one ∙ sym two

@@ -24,7 +24,8 @@ pub struct Picked {
     pub width: usize,
 }
 
-fn symbol(word: i32) -> u32
+// A word's symbol, without a jump. Symbols are counted in 32 bits, so that four go into a vector.
+pub fn symbol(word: i32) -> u32
     ensures { λ r. ⌜ (r ≡ symbolOf word) × (r ≤ 2) ⌝ }
 {
     let delta: u32 = if 255 < word { 2 } else { 1 };
@@ -32,7 +33,7 @@ fn symbol(word: i32) -> u32
     if 32767 < word { 0 } else { received }
 }
 
-// The symbol at a place of the list. Symbols are counted in 32 bits, so that four go into a vector.
+// The symbol at a place of the list.
 fn symbol_in(list: &[i32], at: usize) -> u32
     requires { ⌜ at < length (now list) ⌝ }
     ensures { λ r. ⌜ (r ≡ getD (map symbolOf (now (list .entry))) at 0) × (r ≤ 2) ⌝ }
@@ -41,7 +42,7 @@ fn symbol_in(list: &[i32], at: usize) -> u32
 }
 
 // 1 for a small delta, else 0.
-fn small(word: i32) -> u32
+pub fn small(word: i32) -> u32
     ensures { λ r. ⌜ r ≡ symbolOf word % 2 ⌝ }
 {
     let few: u32 = if 255 < word { 0 } else { 1 };
@@ -78,17 +79,6 @@ pub fn symbol_at(list: &[i32], at: usize) -> usize
     ensures { λ r. ⌜ (r ≡ getD (map symbolOf (now (list .entry))) at 0) × (r ≤ 2) ⌝ }
 {
     wide(symbol_or_lost(list, at))
-}
-
-// 1 for a small delta at a place, else 0.
-pub fn small_at(list: &[i32], at: usize) -> usize
-    ensures { λ r. ⌜ r ≡ getD (map symbolOf (now (list .entry))) at 0 % 2 ⌝ }
-{
-    if at < list.len() {
-        wide(small_in(list, at))
-    } else {
-        0
-    }
 }
 
 fn lesser(a: usize, b: usize) -> usize

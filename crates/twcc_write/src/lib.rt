@@ -52,6 +52,28 @@ fn low_at(list: &[i32], at: usize) -> usize
     low(list[at])
 }
 
+fn sized(x: u32) -> usize
+    ensures { λ r. ⌜ r ≡ x ⌝ }
+{
+    x as usize
+}
+
+// The symbol of the word at a place.
+fn symbol_in(list: &[i32], at: usize) -> usize
+    requires { ⌜ at < length (now list) ⌝ }
+    ensures { λ r. ⌜ r ≡ symbolOf (wordAt (now (list .entry)) at) ⌝ }
+{
+    sized(twcc_pick::symbol(list[at]))
+}
+
+// 1 where the word at a place has a small delta, else 0.
+fn small_in(list: &[i32], at: usize) -> usize
+    requires { ⌜ at < length (now list) ⌝ }
+    ensures { λ r. ⌜ r ≡ symbolOf (wordAt (now (list .entry)) at) % 2 ⌝ }
+{
+    sized(twcc_pick::small(list[at]))
+}
+
 // The first of a word's two bytes, if it has two; else the second.
 fn leading(symbol: usize, bits: usize) -> usize
     ensures { λ r. ⌜ r ≡ cond (eqb symbol 2) (bits / 256) (bits % 256) ⌝ }
@@ -84,7 +106,7 @@ fn put_two(list: &[i32], n: usize, out: &mut [u8], at: usize, end: usize) -> usi
     requires { ⌜ (DeltaStorable (now list) n (now out) at) × (at + 2 ≤ end) × (end ≤ length (now out)) ⌝ }
     ensures { λ r. ⌜ QuickStored (now (list .entry)) n (now (out .entry)) at end r (now (out .exit)) ⌝ }
 {
-    let symbol = twcc_pick::symbol_at(list, n);
+    let symbol = symbol_in(list, n);
     let bits = low_at(list, n);
     out[at] = leading(symbol, bits) as u8;
     out[at + 1] = (bits % 256) as u8;
@@ -97,7 +119,7 @@ fn put_one(list: &[i32], n: usize, out: &mut [u8], at: usize, end: usize) -> usi
     ensures { λ r. ⌜ QuickStored (now (list .entry)) n (now (out .entry)) at end r (now (out .exit)) ⌝ }
 {
     out[at] = (low_at(list, n) % 256) as u8;
-    at + twcc_pick::small_at(list, n)
+    at + small_in(list, n)
 }
 
 // The same where two bytes may be too many.

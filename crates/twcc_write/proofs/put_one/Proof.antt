@@ -1,12 +1,10 @@
 -- One byte is right or stored over.
 use borrow.Author.Needs.{needs}
-use Prim.Native.Nat.{ℕ, _%_}
-use mathlib.Core.Path.{_≡_, sym, ap, _∙_}
+use Prim.Native.Nat.{_%_}
+use mathlib.Core.Path.{_≡_}
 use native.Mathlib.Omega.{arith}
 use denote.Ref.{now}
-use lib.IntN.{pos}
 use Rattle.twcc.specs.Words.{symbolOf}
-use Rattle.twcc_pick.proofs.Symbols.{symbol-there}
 use Rattle.twcc_write.specs.Stores.{wordAt}
 use Rattle.twcc_write.proofs.Spreading.{single-stored}
 use Rattle.twcc_write.proofs.put_one.Statement.{statement}
@@ -21,8 +19,8 @@ cast-out c = search needs
 slice-write-out : tie.Need-slice-write-out
 slice-write-out c = search needs
 
-small-at-requires : tie.Need-small-at-requires
-small-at-requires c κs = search needs
+small-in-requires : tie.Need-small-in-requires
+small-in-requires c κs = search needs
 
 add-result : tie.Need-add-result
 add-result c = search needs
@@ -34,8 +32,8 @@ returns : tie.Need-returns
 returns c =
     let s = c .before .before .before in
     let symbol = symbolOf (wordAt (now (s .args .list)) (s .args .n)) in
-    let bit : c .small-at .result ≡ symbol % 2 =
-    c .small-at .ensures ∙ ap (λ (k : ℕ). k % 2) (sym (symbol-there (now (s .args .list)) (s .args .n) (pos 0) (s .pre .0 .inside))) in
+    let bit : c .small-in .result ≡ symbol % 2 =
+    c .small-in .ensures in
     let few = s .pre .1 in
     single-stored (now (s .args .list)) _ _ _ _ _ _ (omega arith) (c .before .low-at .ensures) (omega arith) (s .pre .2)
 
@@ -46,7 +44,7 @@ put-one-spec =
     low-at-requires
     cast-out
     slice-write-out
-    small-at-requires
+    small-in-requires
     add-result
     same-length
     returns)
