@@ -12,10 +12,12 @@ use line::behind;
 use line::byte_at;
 use line::next_place;
 use memory::bytes_of;
+use memory::part;
 use name::ENDS;
 use name::NONE;
 use name::TOTAL;
 use name::WRONG;
+use name::name_of;
 use name::row_of;
 use number::number_of;
 use number::numbers_at;
@@ -70,7 +72,7 @@ fn count_in(counts: &mut [u64; 38], row: usize) {
 }
 
 // Counts a line, and shows what is wrong with it if it is among the first.
-fn count(counts: &mut [u64; 38], line: u64, row: usize, what: u8) {
+fn count(counts: &mut [u64; 38], names: &[u8], line: u64, row: usize, what: u8) {
     count_in(counts, row);
     if row != ENDS {
         count_in(counts, TOTAL);
@@ -81,31 +83,21 @@ fn count(counts: &mut [u64; 38], line: u64, row: usize, what: u8) {
     count_in(counts, behind(row, WRONG));
     count_in(counts, TOTAL + WRONG);
     if counts[37] <= SHOWN {
-        say_disagreement(line, row, what);
+        say_disagreement(line, name_of(names, row), what);
     }
 }
 
-fn enter(s: &[u8], line: u64, counts: &mut [u64; 38]) {
+fn enter(s: &[u8], names: &[u8], line: u64, counts: &mut [u64; 38]) {
     if byte_at(s, 0) == b'#' {
         return;
     }
-    let row = row_of(s);
+    let row = row_of(s, names);
     let what = judge(row, s, counts[18]);
-    count(counts, line, row, what);
-}
-
-// The bytes from a place to another, which is not before it.
-fn part(s: &[u8], from: usize, to: usize) -> &[u8] {
-    if to <= s.len() {
-        if from <= to {
-            return &s[from..to];
-        }
-    }
-    s
+    count(counts, names, line, row, what);
 }
 
 // All lines, each of a byte or more with its newline.
-fn replay(text: &[u8], counts: &mut [u64; 38]) {
+fn replay(text: &[u8], names: &[u8], counts: &mut [u64; 38]) {
     let mut line: u64 = 0;
     let mut at = 0;
     let mut turns = text.len();
@@ -115,38 +107,45 @@ fn replay(text: &[u8], counts: &mut [u64; 38]) {
         }
         let to = next_place(text, at, b'\n');
         line = std::num::wrapping_add_u64(line, 1);
-        enter(part(text, at, to), line, counts);
+        enter(part(text, at, to), names, line, counts);
         at = behind(to, 1);
         turns -= 1;
     }
 }
 
-fn table(counts: &[u64; 38]) {
+fn table(names: &[u8], counts: &[u64; 38]) {
     say_head();
     let mut row = 0;
     while row < ENDS {
-        say_row(row, counts[row], counts[row + WRONG]);
+        say_row(name_of(names, row), counts[row], counts[row + WRONG]);
         row += 1;
     }
-    say_row(TOTAL, counts[18], counts[37]);
+    say_row(name_of(names, TOTAL), counts[18], counts[37]);
 }
 
-fn replay_whole(text: &[u8]) {
+fn replay_whole(text: &[u8], names: &[u8]) {
     let mut counts = [0u64; 38];
-    replay(text, &mut counts);
+    replay(text, names, &mut counts);
     if counts[17] != 1 {
-        count(&mut counts, 0, ENDS, CUT);
+        count(&mut counts, names, 0, ENDS, CUT);
     }
-    table(&counts);
+    table(names, &counts);
 }
 
 // A recording that fills the room may go on.
-fn replay_file(fd: i32) {
+fn replay_file(fd: i32, names: &[u8]) {
     let mut text = room::for_text();
     let n = io::read_full(fd, &mut text);
     if n < 1048576 {
-        replay_whole(bytes_of(&text, n));
+        replay_whole(bytes_of(&text, n), names);
     }
+}
+
+fn replay_named(fd: i32) {
+    replay_file(
+        fd,
+        b"version         padding_bit     count           packet_type     length          padding         check_packet    compound_parse  unknown_parse   walk_step       unknown_write   nack_add        nack_read       nack_write      twcc_read       twcc_write      arrival         end             total           ",
+    );
 }
 
 fn main() {
@@ -157,6 +156,6 @@ fn main() {
         os::fail(&path[..length]);
         return;
     }
-    replay_file(fd);
+    replay_named(fd);
     libc::close(fd);
 }

@@ -259,7 +259,17 @@ pub fn words_of(s: &[i32], count: usize) -> &[i32] {
     s
 }
 
-// The same to be written.
+// The bytes from a place to another, which is not before it.
+pub fn part(s: &[u8], from: usize, to: usize) -> &[u8] {
+    if to <= s.len() {
+        if from <= to {
+            return &s[from..to];
+        }
+    }
+    s
+}
+
+// The first so many elements, to be written.
 pub fn lent_bytes(s: &mut [u8], count: usize) -> &mut [u8] {
     if count <= s.len() {
         return &mut s[0..count];

@@ -1,5 +1,4 @@
 // What the program prints: a line for each of the first disagreements, and the table.
-use crate::name::say_name;
 use libc::STDOUT_FILENO;
 
 // What can be wrong with a line.
@@ -15,7 +14,7 @@ pub const MISCOUNTS: u8 = 4;
 
 pub const CUT: u8 = 5;
 
-pub fn say(text: &[u8]) {
+fn say(text: &[u8]) {
     io::write_all(STDOUT_FILENO, text);
 }
 
@@ -57,11 +56,11 @@ fn say_what(what: u8) {
     say(b" is missing\n");
 }
 
-pub fn say_disagreement(line: u64, row: usize, what: u8) {
+pub fn say_disagreement(line: u64, name: &[u8], what: u8) {
     say(b"line ");
     say_number(line);
     say(b": ");
-    say_name(row);
+    say(name);
     say_what(what);
 }
 
@@ -70,11 +69,11 @@ pub fn say_head() {
 }
 
 // A row of the table.
-pub fn say_row(row: usize, cases: u64, wrong: u64) {
+pub fn say_row(name: &[u8], cases: u64, wrong: u64) {
     say_column(cases);
     say(b"         ");
     say_column(wrong);
     say(b"  ");
-    say_name(row);
+    say(name);
     say(b"\n");
 }

@@ -4,10 +4,10 @@ use Rattle.replay.proofs.replay.Statement.{statement}
 use Rattle.replay.proofs.replay.Tie as tie
 
 abbrev Inv-loop : tie.InvT-loop
-Inv-loop text counts₀ line₀ at₀ turns₀ counts line at turns = Unit {0}
+Inv-loop text names counts₀ line₀ at₀ turns₀ counts line at turns = Unit {0}
 
 abbrev μ-loop : tie.MeasureT-loop
-μ-loop text counts₀ line₀ at₀ turns₀ counts line at turns = turns
+μ-loop text names counts₀ line₀ at₀ turns₀ counts line at turns = turns
 
 loop-holds : tie.Need-loop-holds Inv-loop μ-loop
 loop-holds c = search needs

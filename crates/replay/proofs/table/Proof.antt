@@ -5,16 +5,19 @@ use Rattle.replay.proofs.table.Statement.{statement}
 use Rattle.replay.proofs.table.Tie as tie
 
 abbrev Inv-loop : tie.InvT-loop
-Inv-loop counts row₀ row = Unit {0}
+Inv-loop names counts row₀ row = Unit {0}
 
 abbrev μ-loop : tie.MeasureT-loop
-μ-loop counts row₀ row = 17 - row
+μ-loop names counts row₀ row = 17 - row
 
 say-head-requires : tie.Need-say-head-requires Inv-loop μ-loop
 say-head-requires c κs = search needs
 
 loop-holds : tie.Need-loop-holds Inv-loop μ-loop
 loop-holds c = search needs
+
+name-of-requires : tie.Need-name-of-requires Inv-loop μ-loop
+name-of-requires c κs = search needs
 
 mul-say-row : tie.Need-mul-say-row Inv-loop μ-loop
 mul-say-row c = search needs
@@ -43,6 +46,9 @@ loop-less c = search needs
 loop-again : tie.Need-loop-again Inv-loop μ-loop
 loop-again c = search needs
 
+name-of-requires-2 : tie.Need-name-of-requires-2 Inv-loop μ-loop
+name-of-requires-2 c κs = search needs
+
 element-copy-out-say-row-3 : tie.Need-element-copy-out-say-row-3 Inv-loop μ-loop
 element-copy-out-say-row-3 c = search needs
 
@@ -63,6 +69,7 @@ table-spec =
     μ-loop
     say-head-requires
     loop-holds
+    name-of-requires
     mul-say-row
     element-copy-out-say-row
     add-say-row
@@ -72,6 +79,7 @@ table-spec =
     add-row
     loop-less
     loop-again
+    name-of-requires-2
     element-copy-out-say-row-3
     element-copy-out-say-row-4
     say-row-requires-2
