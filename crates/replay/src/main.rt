@@ -30,6 +30,7 @@ use report::UNREADABLE;
 use report::say_disagreement;
 use report::say_head;
 use report::say_row;
+use report::say_too_long;
 
 // How many disagreements are shown.
 const SHOWN: u64 = 20;
@@ -96,8 +97,8 @@ fn enter(s: &[u8], names: &[u8], line: u64, counts: &mut [u64; 38]) {
     count(counts, names, line, row, what);
 }
 
-// All lines, each of a byte or more with its newline.
-fn replay(text: &[u8], names: &[u8], counts: &mut [u64; 38]) {
+// All lines, each of a byte or more with its newline; answers how many there are.
+fn replay(text: &[u8], names: &[u8], counts: &mut [u64; 38]) -> u64 {
     let mut line: u64 = 0;
     let mut at = 0;
     let mut turns = text.len();
@@ -111,6 +112,7 @@ fn replay(text: &[u8], names: &[u8], counts: &mut [u64; 38]) {
         at = behind(to, 1);
         turns -= 1;
     }
+    line
 }
 
 fn table(names: &[u8], counts: &[u64; 38]) {
@@ -125,9 +127,9 @@ fn table(names: &[u8], counts: &[u64; 38]) {
 
 fn replay_whole(text: &[u8], names: &[u8]) {
     let mut counts = [0u64; 38];
-    replay(text, names, &mut counts);
+    let lines = replay(text, names, &mut counts);
     if counts[17] != 1 {
-        count(&mut counts, names, 0, ENDS, CUT);
+        count(&mut counts, names, lines, ENDS, CUT);
     }
     table(names, &counts);
 }
@@ -136,9 +138,11 @@ fn replay_whole(text: &[u8], names: &[u8]) {
 fn replay_file(fd: i32, names: &[u8]) {
     let mut text = room::for_text();
     let n = io::read_full(fd, &mut text);
-    if n < 1048576 {
-        replay_whole(bytes_of(&text, n), names);
+    if n >= 1048576 {
+        say_too_long();
+        return;
     }
+    replay_whole(bytes_of(&text, n), names);
 }
 
 fn replay_named(fd: i32) {

@@ -64,6 +64,10 @@ pub fn say_disagreement(line: u64, name: &[u8], what: u8) {
     say_what(what);
 }
 
+pub fn say_too_long() {
+    say(b"the recording is too long\n");
+}
+
 pub fn say_head() {
     say(b" cases  disagreements  call\n");
 }
