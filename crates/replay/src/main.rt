@@ -145,6 +145,7 @@ fn replay_file(fd: i32, names: &[u8]) {
     replay_whole(bytes_of(&text, n), names);
 }
 
+// Lends the names of the rows, in their order.
 fn replay_named(fd: i32) {
     replay_file(
         fd,

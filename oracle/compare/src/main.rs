@@ -31,11 +31,11 @@ const PARTS: &[Part] = &[
 const HELP: &str = "\
 compare [--cases N] [--seed S] [--record FILE [--most N]] [--only NAME]
 
-  --cases N    random cases a call, where that is more than its own number
-  --seed S     the seed of the random cases (default 1)
+  --cases N      random cases a call, where that is more than its own number
+  --seed S       the seed of the random cases (default 1)
   --record FILE  writes a sample of the cases, with what is expected of each
-  --most N     about how many cases of a call are recorded (default 300)
-  --only NAME  one part alone";
+  --most N       about how many cases of a call are recorded (default 300)
+  --only NAME    one part alone";
 
 struct Wishes {
     effort: Effort,
