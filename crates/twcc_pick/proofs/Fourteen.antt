@@ -94,7 +94,7 @@ plain-tests b low high =
 
 -- ---- the loop that weighs
 
-below-at : (b n : ℕ) (ss : List ℕ) → Below b ss → n < length ss → getD ss n 0 < b
+pub below-at : (b n : ℕ) (ss : List ℕ) → Below b ss → n < length ss → getD ss n 0 < b
 below-at b n [] below inside = absurd (omega arith)
 below-at b zero (s ∷ ss) below inside = below .0
 below-at b (suc n) (s ∷ ss) below inside = below-at b n ss (below .1) (omega arith)

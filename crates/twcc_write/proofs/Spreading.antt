@@ -8,7 +8,7 @@ use native.Mathlib.Omega.{arith}
 use borrow.Author.Tests.{eq-eqb, ne-eqb}
 use lib.Dec.{eqb}
 use lib.IntN.{ℤ, pos}
-use lib.ListN.{length, getD, take, set, length-append, length-map, length-take}
+use lib.ListN.{length, take, set, length-append, length-map, length-take}
 use lib.Seq.{sets, set-set, set-comm, take-suc, take-take, getD-take, getD-set-other}
 use Rattle.lent.specs.Laws.{sets-append}
 use Rattle.twcc.specs.Words.{symbolOf, bits16, bytesFor, deltaBytes, deltas}
@@ -17,6 +17,7 @@ use Rattle.twcc.specs.Written.{by-test, symbol-lt, symbols-lt, length-delta, le
 use Rattle.twcc_plan.specs.PlanLaws.{below-take, width-le}
 use Rattle.twcc_plan.specs.BlockLaws.{take-symbols}
 use Rattle.twcc_pick.proofs.Symbols.{symbol-there}
+use Rattle.twcc_pick.proofs.Fourteen.{below-at}
 use Rattle.twcc_write.specs.Stores.{wordAt, DeltaStorable, DeltaStored, QuickStored, Storable, Stored, Reached}
 use Rattle.twcc_write.proofs.Words.{valid-at, small-bits}
 use Rattle.twcc_write.proofs.Bytes.{getD-before, deltas-append, deltas-few}
@@ -167,11 +168,6 @@ module _ {list : List ℤ} {entries : ℕ} {out₀ out : List ℕ} {at end p n :
         }
 
 -- ---- how far they go at most
-
-below-at : (b n : ℕ) (ss : List ℕ) → Below b ss → n < length ss → getD ss n 0 < b
-below-at b n [] below inside = absurd (omega arith)
-below-at b zero (s ∷ ss) below inside = below .0
-below-at b (suc n) (s ∷ ss) below inside = below-at b n ss (below .1) (omega arith)
 
 pub symbol-below : (list : List ℤ) (entries n : ℕ) → Below 2 (take entries (map symbolOf list)) → n < entries → entries ≤ length list → symbolOf (wordAt list n) < 2
 symbol-below list entries n below more inside =
