@@ -49,16 +49,13 @@ fn answer(asked: Asked) -> u8 {
         help::write(STDERR_FILENO);
         return TROUBLE;
     }
-    let mut word = io::buffer();
-    let n = os::arg(asked.command, &mut word);
-    match named(&word[..n]) {
+    match asked_for(asked.command) {
         Command::About(report) => about(asked, report),
         Command::Help => {
             help::write(STDOUT_FILENO);
             ANSWERED
         }
         Command::None => {
-            ask::complain(b"no such command", &word[..n]);
             help::hint();
             TROUBLE
         }
@@ -77,6 +74,13 @@ enum Command {
     None,
 }
 
+// The command that an argument names. Says so where there is none.
+fn asked_for(place: usize) -> Command {
+    let mut word = io::buffer();
+    let n = os::arg(place, &mut word);
+    named(&word[..n])
+}
+
 fn named(word: &[u8]) -> Command {
     if ask::same(word, b"compound") {
         return Command::About(Report::Compound);
@@ -90,6 +94,7 @@ fn named(word: &[u8]) -> Command {
     if ask::same(word, b"help") {
         return Command::Help;
     }
+    ask::complain(b"no such command", word);
     Command::None
 }
 
@@ -106,6 +111,10 @@ fn about(asked: Asked, report: Report) -> u8 {
     let Count::Is(take) = ask::number(asked.take, input::ROOM) else {
         return TROUBLE;
     };
+    named_file(report, asked, skip, take)
+}
+
+fn named_file(report: Report, asked: Asked, skip: usize, take: usize) -> u8 {
     let mut path = io::buffer();
     let n = os::arg(asked.file, &mut path);
     let mut bytes = input::room();
