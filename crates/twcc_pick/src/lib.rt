@@ -75,7 +75,7 @@ fn wide(x: u32) -> usize
 }
 
 // The same as a size.
-pub fn symbol_at(list: &[i32], at: usize) -> usize
+fn symbol_at(list: &[i32], at: usize) -> usize
     ensures { λ r. ⌜ (r ≡ getD (map symbolOf (now (list .entry))) at 0) × (r ≤ 2) ⌝ }
 {
     wide(symbol_or_lost(list, at))

@@ -86,7 +86,7 @@ fn put_delta(list: &[i32], n: usize, out: &mut [u8], at: usize) -> usize
     requires { ⌜ DeltaStorable (now list) n (now out) at ⌝ }
     ensures { λ r. ⌜ DeltaStored (now (list .entry)) n (now (out .entry)) at r (now (out .exit)) ⌝ }
 {
-    let symbol = twcc_pick::symbol_at(list, n);
+    let symbol = symbol_in(list, n);
     if symbol == 0 {
         return at;
     }

@@ -2,10 +2,8 @@
 use mathlib.Core.Path.{_≡_, sym, _∙_}
 use native.Mathlib.Omega.{arith}
 use denote.Ref.{now}
-use lib.IntN.{pos}
 use lib.ListN.{length-set}
 use Rattle.twcc.specs.Words.{symbolOf}
-use Rattle.twcc_pick.proofs.Symbols.{symbol-there}
 use Rattle.twcc_write.specs.Stores.{wordAt}
 use Rattle.twcc_write.proofs.Words.{small-bits, bits-lt}
 use Rattle.twcc_write.proofs.Delivering.{none-stored, small-stored, large-stored}
@@ -14,11 +12,11 @@ use Rattle.twcc_write.proofs.put_delta.Statement.{statement}
 use Rattle.twcc_write.proofs.put_delta.Tie as tie
 
 -- the symbol is the word's
-symbol : (c : tie.After-symbol-at) → c .symbol-at .result ≡ symbolOf (wordAt (now (c .before .before .args .list)) (c .before .before .args .n))
-symbol c = c .symbol-at .ensures .0 ∙ sym (symbol-there (now (c .before .before .args .list)) (c .before .before .args .n) (pos 0) (c .before .before .pre .inside))
+symbol : (c : tie.After-symbol-in) → c .symbol-in .result ≡ symbolOf (wordAt (now (c .before .before .args .list)) (c .before .before .args .n))
+symbol c = c .symbol-in .ensures
 
-symbol-at-requires : tie.Need-symbol-at-requires
-symbol-at-requires c κs = search needs
+symbol-in-requires : tie.Need-symbol-in-requires
+symbol-in-requires c κs = search needs
 
 returns : tie.Need-returns
 returns c = none-stored _ _ _ _ _ (symbol (c .before)) (c .if1 .taken)
@@ -69,7 +67,7 @@ pub put-delta-spec : {M : Type 1} → statement M
 put-delta-spec =
     tie.close
     (tie.spec
-    symbol-at-requires
+    symbol-in-requires
     returns
     low-at-requires
     cast-out
