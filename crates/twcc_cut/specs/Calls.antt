@@ -1,6 +1,6 @@
 -- The same of the code, from the promises of `write` and `read`: blocks that the writer wrote one after the other, each read
 -- by the reader, give the list; and a call on what is left is never refused where there is room.
-use Prim.Native.Nat.{ℕ, zero, _+_, _%_, _≤_, _<_}
+use Prim.Native.Nat.{ℕ, zero, suc, _+_, _%_, _≤_, _<_}
 use mathlib.Core.Path.{_≡_, refl, sym, ap, subst, _∙_}
 use mathlib.Core.List.{List, [], _∷_, _++_, map}
 use mathlib.Core.Bool.{Bool, true, false, cond}
@@ -8,13 +8,13 @@ use native.Mathlib.Omega.{arith}
 use borrow.Author.Tests.{le-ltb}
 use lib.Dec.{ltb}
 use lib.IntN.{ℤ}
-use lib.ListN.{length, take, drop, length-take}
+use lib.ListN.{length, take, drop, length-take, length-drop}
 use Rattle.refusal.specs.Outcome.{gave, refuse}
 use Rattle.twcc.specs.Words.{AllValid}
 use Rattle.twcc.specs.Block.{listed}
 use Rattle.twcc_plan.specs.Block.{most, takenOf, sizeOf, blockBytes}
 use Rattle.twcc_plan.specs.PlanLaws.{wide-eight}
-use Rattle.twcc_plan.specs.BlockLaws.{block-takes, block-length, block-list, taken-fits}
+use Rattle.twcc_plan.specs.BlockLaws.{valid-drop, block-takes, block-length, block-list, taken-fits}
 use Rattle.twcc_walk.specs.Cursors.{headerOf}
 use Rattle.twcc_walk.specs.declared.Header.{Header}
 use Rattle.twcc_read.specs.Promise.{saidReading, readAnswer, Reads}
@@ -147,3 +147,69 @@ read-goes-on base list {room} {words} c r fits valid enough reads =
     let answer : saidReading r ≡ gave (record { header = headerOf block; count = takenOf (c .limit) list }) =
     reads .answer ∙ simp (le-ltb (length block) 8 size, n, le-ltb (length room) (takenOf (c .limit) list) enough) in
     reading-is r _ answer
+
+-- ---- that the calls end
+
+-- what one pair of calls is made with
+pub record Means : Type 0 where
+  pub choice : Choice
+  pub buffer : List ℕ
+  pub room : List ℤ
+
+-- a choice that fits, and room for what is left
+abbrev pub Enough : Means → List ℤ → Type 0
+Enough m list = Fits (m .choice) × (sizeOf (m .choice .limit) list ≤ length (m .buffer)) × (takenOf (m .choice .limit) list ≤ length (m .room))
+
+-- a writer and a reader that keep their promises, and nothing else is known of them
+abbrev pub Writer : Type 0
+Writer =
+    (base : ℕ) (list : List ℤ) (m : Means)
+    → (answer : Written) × ((new : List ℕ) × Wrote base (m .choice .time) (m .choice .feedback) list (m .choice .limit) (m .buffer) answer new)
+
+abbrev pub Reader : Type 0
+Reader = (block : List ℕ) (room : List ℤ) → (r : Reading) × ((words : List ℤ) × Reads block room r words)
+
+-- a way of choosing: from the calls made so far, the last one first, and what is left
+abbrev pub Ways : Type 0
+Ways = List Call → List ℤ → Means
+
+module _ (write : Writer) (read : Reader) (way : Ways) (enough : (before : List Call) (list : List ℤ) → Enough (way before list) list) where
+  one-call : (before : List Call) (base : ℕ) (list : List ℤ) → zero < length list → length list ≤ most → AllValid list
+      → (c : Call)
+      × (Wrote base (c .choice .time) (c .choice .feedback) list (c .choice .limit) (c .before) (written.Block (c .used)) (c .after)
+      × (Reads (blockOf c) (c .room) (reading.Block (c .said)) (c .words) × (Fits (c .choice) × (c .used .taken ≡ takenOf (c .choice .limit) list))))
+  one-call before base list there short valid =
+      let m = way before list in
+      let e = enough before list in
+      let w = write base list m in
+      let goes = write-goes-on (m .choice) (w .0) (e .0) there short valid (e .1) (w .1 .1) in
+      let used = usedFor list (m .choice .limit) in
+      let wrote = subst (λ (a : Written). Wrote base (m .choice .time) (m .choice .feedback) list (m .choice .limit) (m .buffer) a (w .1 .0)) (goes .0) (w .1 .1) in
+      let block = block-there used wrote in
+      let r = read (take (used .bytes) (w .1 .0)) (m .room) in
+      let there′ = subst (λ (b : List ℕ). Reads b (m .room) (r .0) (r .1 .0)) (block .there) (r .1 .1) in
+      let says = read-goes-on base list (m .choice) (r .0) (e .0) valid (e .2) there′ in
+      let said : Listed = record { header = headerOf (blockBytes base (m .choice .time) (m .choice .feedback) (m .choice .limit) list); count = takenOf (m .choice .limit) list } in (
+        record { choice = m .choice; before = m .buffer; used = used; after = w .1 .0; room = m .room; said = said; words = r .1 .0 },
+        (wrote, (subst (λ (a : Reading). Reads (take (used .bytes) (w .1 .0)) (m .room) a (r .1 .0)) says (r .1 .1), (e .0, refl))),
+      )
+
+  calls-from : (fuel : ℕ) (before : List Call) (base : ℕ) (list : List ℤ) → length list ≤ fuel → length list ≤ most → AllValid list
+      → (calls : List Call) × (Calls base list calls × AllFit (map partFrom calls))
+  calls-from zero before base [] few short valid = ([], (nothing-left, tt))
+  calls-from zero before base (w ∷ list) few short valid = absurd (omega arith)
+  calls-from (suc fuel) before base [] few short valid = ([], (nothing-left, tt))
+  calls-from (suc fuel) before base (w ∷ list) few short valid =
+      let one = one-call before base (w ∷ list) (omega arith) short valid in
+      let c = one .0 in
+      let n = c .used .taken in
+      let some : zero < n = omega (arith, one .1 .1 .1 .1, block-takes (c .choice .limit) (w ∷ list) (one .1 .1 .1 .0 .0) (omega arith)) in
+      let fewer : length (drop n (w ∷ list)) ≤ fuel = omega (arith, length-drop n (w ∷ list)) in
+      let rest = calls-from fuel (c ∷ before) ((base + n) % 65536) (drop n (w ∷ list)) fewer (omega (arith, length-drop n (w ∷ list))) (valid-drop n (w ∷ list) valid) in
+      (c ∷ rest .0, (one-more {list = w ∷ list} {calls = rest .0} c (omega arith) (one .1 .0) (one .1 .1 .0) (rest .1 .0), (one .1 .1 .1 .0, rest .1 .1)))
+
+  -- with room, the calls end, and what the reader gave is the list
+  pub calls-end : (base : ℕ) (list : List ℤ) → base < 65536 → length list ≤ most → AllValid list → (calls : List Call) × (Calls base list calls × CallsWhole base list calls)
+  calls-end base list small short valid =
+      let made = calls-from (length list) [] base list (omega arith) short valid in
+      (made .0, (made .1 .0, calls-whole base list (made .0) (made .1 .0) small (made .1 .1)))
