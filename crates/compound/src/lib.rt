@@ -1,5 +1,4 @@
-// Several packets laid end to end (compound.rs): the first pass over them, the step of the walk from packet to packet, and
-// the packet of any type.
+// Several packets laid end to end (compound.rs): the first pass over them, and the step of the walk from packet to packet.
 use refusal::Checked;
 use refusal::Refusal;
 ghost use mathlib.Core.Path.{_≡_};
@@ -7,22 +6,27 @@ ghost use Prim.Native.Nat.{_+_, _*_, _<_, _≤_};
 ghost use lib.ListN.{length};
 ghost use Rattle.refusal.specs.Said.{saidChecked};
 ghost use Rattle.utils.specs.Header.{versionOf};
-ghost use Rattle.compound.specs.Unknown.{unknown};
 ghost use Rattle.compound.specs.Pass.{firstTurn, firstPass};
-ghost use Rattle.compound.specs.Walk.{walkStep, walkNext, walkPart};
-ghost use Rattle.compound.specs.Said.{saidTurn, saidWalked};
-ghost use Rattle.compound.specs.Laws.{WordsBehind};
+ghost use Rattle.compound.specs.Walk.{walkStep, walkNext, HandsBack};
+ghost use Rattle.compound.specs.Said.{saidWalked};
+ghost use Rattle.compound.specs.Inner.{WordsBehind, saidTurn};
 
 // One turn of the first pass: where the next packet starts, in words of four bytes.
-pub enum Turn {
+enum Turn {
     Next(usize),
     No(Refusal),
+}
+
+// A packet within the bytes: where it starts, and how long it is.
+pub struct Packet {
+    pub start: usize,
+    pub length: usize,
 }
 
 // What the walk finds at an offset.
 pub enum Found {
     Over,
-    Packet,
+    Packet(Packet),
     No(Refusal),
 }
 
@@ -30,24 +34,6 @@ pub enum Found {
 pub struct Walked {
     pub found: Found,
     pub next: usize,
-}
-
-// `Unknown::parse`: one packet of any type, neither shorter nor longer than it says.
-pub fn unknown_parse(packet: &[u8]) -> Checked
-    ensures { λ r. ⌜ saidChecked r ≡ unknown (now (packet .entry)) ⌝ }
-{
-    let present = packet.len();
-    if present < 4 {
-        return Checked::No(Refusal::TooShort {
-            expected: 4,
-            actual: present,
-        });
-    }
-    let version = utils::version_of(packet);
-    if version != 2 {
-        return Checked::No(Refusal::Version(version));
-    }
-    utils::check_length(packet)
 }
 
 // A byte where a larger number is wanted.
@@ -102,7 +88,7 @@ pub fn parse(bytes: &[u8]) -> Checked
             actual: end,
         });
     }
-    let version = utils::version_of(bytes);
+    let version = bytes[0] / 64;
     if version != 2 {
         return Checked::No(Refusal::Version(version));
     }
@@ -165,20 +151,23 @@ pub fn walk_step(bytes: &[u8], at: usize) -> Walked
         };
     }
     Walked {
-        found: Found::Packet,
+        found: Found::Packet(Packet {
+            start: at,
+            length: next - at,
+        }),
         next,
     }
 }
 
 // The packet that the step hands back, as a part of the lent bytes; empty where it hands back none.
 pub fn walk_part(bytes: &[u8], at: usize) -> &[u8]
-    ensures { λ r. ⌜ now r ≡ walkPart (now (bytes .entry)) at ⌝ }
+    ensures { λ r. ⌜ HandsBack (bytes .entry) at r ⌝ }
 {
     let walked = walk_step(bytes, at);
     let found = walked.found;
     let next = walked.next;
     match found {
-        Found::Packet => &bytes[at..next],
+        Found::Packet(_) => &bytes[at..next],
         Found::Over => &bytes[..0],
         Found::No(_) => &bytes[..0],
     }

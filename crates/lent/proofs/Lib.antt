@@ -1,1 +1,3 @@
 pub mod Storing
+pub mod Laws
+pub mod Unique

@@ -1,4 +1,4 @@
 pub mod Bytes
 pub mod After
-pub mod Laws
-pub mod Unique
+pub mod Store
+pub mod Part

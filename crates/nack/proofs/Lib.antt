@@ -2,3 +2,4 @@ pub mod Masks
 pub mod Opens
 pub mod Back
 pub mod Rooms
+pub mod Unique

@@ -9,7 +9,7 @@ use lib.Bits.{bitAnd}
 use lib.Count.{ones, trailingZeros}
 use lib.ListN.{length, getD, drop, set, length-drop, length-set, length-append}
 use lib.Seq.{sets, length-sets, drop-cons}
-use Rattle.lent.specs.Laws.{sets-append}
+use Rattle.lent.proofs.Laws.{sets-append}
 use Rattle.nack.specs.Entries.{masked, named, allNamed, entriesIn, readNack}
 use Rattle.nack.specs.Promise.{capped}
 use Rattle.nack.proofs.Masks.{length-named, named-few, masked-none, masked-first, masked-full, length-run, and-less}

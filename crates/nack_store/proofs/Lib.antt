@@ -4,3 +4,4 @@ pub mod Store
 pub mod Numbers
 pub mod Sizes
 pub mod Counting
+pub mod Unique

@@ -8,7 +8,7 @@ use native.Mathlib.Omega.{arith}
 use native.Mathlib.Nat.{zero-div}
 use native.Mathlib.Decide.{ℕ-discrete}
 use lib.ListN.{length, length-set}
-use Rattle.lent.specs.Laws.{length-zeroBytes, getD-zeroBytes}
+use Rattle.lent.proofs.Laws.{length-zeroBytes, getD-zeroBytes}
 use Rattle.nack_store.specs.Bits.{storeSize, bitOf, keep, members, numbersOf, added, addedAll, emptyStore}
 use Rattle.nack_store.proofs.Sets.{by-bit, Within, members-skip, members-take}
 use Rattle.nack_store.proofs.Bytes.{within}

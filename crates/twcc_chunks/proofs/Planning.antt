@@ -8,7 +8,7 @@ use lib.IntN.{ℤ}
 use lib.ListN.{length, drop, length-drop, length-map, drop-of-length-le}
 use lib.Seq.{sets, drop-drop, length-sets}
 use Rattle.lent.specs.Bytes.{be16Bytes}
-use Rattle.lent.specs.Laws.{sets-append}
+use Rattle.lent.proofs.Laws.{sets-append}
 use Rattle.twcc.specs.Words.{symbolOf}
 use Rattle.twcc.specs.Chunks.{Chunk, chunkWord}
 use Rattle.twcc.specs.Written.{symbols-lt, wordBytes}

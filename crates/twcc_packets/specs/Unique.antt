@@ -1,6 +1,6 @@
 -- No slack: two answers that meet a promise are equal.
 use mathlib.Core.Path.{_≡_, sym, ap, _∙_}
-use Rattle.refusal.specs.Unique.{no-unique}
+use Rattle.refusal.proofs.Unique.{no-unique}
 use Prim.Native.Nat.{ℕ}
 use mathlib.Core.List.{List}
 use Rattle.twcc_packets.specs.Packets.{saidOpened, nextPacket}

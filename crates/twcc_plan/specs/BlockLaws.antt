@@ -11,7 +11,7 @@ use lib.Dec.{ltb}
 use lib.IntN.{ℤ, pos, negsuc}
 use lib.ListN.{length, take, drop, length-append, length-map}
 use Rattle.lent.specs.Bytes.{zeroBytes}
-use Rattle.lent.specs.Laws.{length-zeroBytes}
+use Rattle.lent.proofs.Laws.{length-zeroBytes}
 use Rattle.twcc.specs.Time.{latest, timeOf, timeBits, time-back, time-bits}
 use Rattle.twcc.specs.Words.{Valid, AllValid, symbolOf, bits16, bytesFor, deltaBytes, deltas, widthOf}
 use Rattle.twcc.specs.Chunks.{Below, Chunk, chunkWord}

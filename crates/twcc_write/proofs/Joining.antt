@@ -11,7 +11,7 @@ use lib.IntN.{ℤ}
 use lib.ListN.{length, take, set, length-append, length-map}
 use lib.Seq.{sets, set-comm}
 use Rattle.lent.specs.Bytes.{zeroBytes}
-use Rattle.lent.specs.Laws.{sets-append}
+use Rattle.lent.proofs.Laws.{sets-append}
 use Rattle.twcc.specs.Words.{symbolOf, deltas}
 use Rattle.twcc.specs.Chunks.{chunkWord}
 use Rattle.twcc.specs.Written.{by-test, wordBytes}

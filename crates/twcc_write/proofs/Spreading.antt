@@ -10,7 +10,7 @@ use lib.Dec.{eqb}
 use lib.IntN.{ℤ, pos}
 use lib.ListN.{length, take, set, length-append, length-map, length-take}
 use lib.Seq.{sets, set-set, set-comm, take-suc, take-take, getD-take, getD-set-other}
-use Rattle.lent.specs.Laws.{sets-append}
+use Rattle.lent.proofs.Laws.{sets-append}
 use Rattle.twcc.specs.Words.{symbolOf, bits16, bytesFor, deltaBytes, deltas}
 use Rattle.twcc.specs.Chunks.{Below}
 use Rattle.twcc.specs.Written.{by-test, symbol-lt, symbols-lt, length-delta, length-deltas}

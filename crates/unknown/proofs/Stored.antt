@@ -7,10 +7,10 @@ use borrow.Author.Tests.{eq-eqb, ne-eqb}
 use lib.ListN.{length}
 use lib.Seq.{sets}
 use Rattle.lent.specs.Bytes.{be16Bytes, zeroBytes}
-use Rattle.lent.specs.After.{over, sets-over}
-use Rattle.lent.specs.Laws.{sets-append, length-zeroBytes}
+use Rattle.lent.specs.After.{over}
+use Rattle.lent.proofs.Laws.{sets-append, sets-over, length-zeroBytes}
 use Rattle.unknown.specs.Packet.{sizeOf, bodyBytes, padBytes, packetBytes}
-use Rattle.unknown.specs.Laws.{length-bodyBytes, length-packetBytes}
+use Rattle.unknown.proofs.Laws.{length-bodyBytes, length-packetBytes}
 
 -- bytes stored right behind others
 pub behind : (old now then front more : List ℕ) (at from : ℕ) → now ≡ sets old at front → from ≡ at + length front → then ≡ sets now from more

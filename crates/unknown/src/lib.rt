@@ -1,15 +1,37 @@
-// The plain packet writer (`UnknownBuilder` of compound.rs): any count, type, body and padding.
+// Packets of any type (`Unknown` and `UnknownBuilder` of compound.rs): the check that a packet has to pass, and the plain
+// writer of any count, type, body and padding.
+use refusal::Checked;
 use refusal::Number;
 use refusal::Refusal;
 ghost use mathlib.Core.Path.{_≡_};
 ghost use Prim.Native.Nat.{_+_, _≤_};
 ghost use lib.ListN.{length};
 ghost use lib.Seq.{sets};
+ghost use Rattle.refusal.specs.Said.{saidChecked};
+ghost use Rattle.unknown.specs.Parse.{unknown};
 ghost use Rattle.unknown.specs.Packet.{sizeOf, firstByte, bodyBytes, padBytes};
 ghost use Rattle.unknown.specs.Write.{Wrote};
 
 // The longest packet that the length field can say.
 const LONGEST: usize = 262144;
+
+// `Unknown::parse`: one packet of any type, neither shorter nor longer than it says.
+pub fn parse(packet: &[u8]) -> Checked
+    ensures { λ r. ⌜ saidChecked r ≡ unknown (now (packet .entry)) ⌝ }
+{
+    let present = packet.len();
+    if present < 4 {
+        return Checked::No(Refusal::TooShort {
+            expected: 4,
+            actual: present,
+        });
+    }
+    let version = packet[0] / 64;
+    if version != 2 {
+        return Checked::No(Refusal::Version(version));
+    }
+    utils::check_length(packet)
+}
 
 // Version 2, the padding bit, and the count.
 fn first_byte(count: u8, padding: u8) -> u8

@@ -33,6 +33,10 @@ ownLength packet =
     (cond (ltb (lengthOf packet) (length packet)) (refuse 4 (lengthOf packet ∷ length packet ∷ []))
     (gave tt))
 
+-- the same of any bytes: under four have no length
+unfoldable pub checkLength : List ℕ → Outcome Unit
+checkLength packet = cond (ltb (length packet) 4) (refuse 1 (4 ∷ length packet ∷ [])) (ownLength packet)
+
 -- a padded packet's last byte, which counts its padding, is not 0
 unfoldable pub ownPadding : List ℕ → Outcome Unit
 ownPadding packet =

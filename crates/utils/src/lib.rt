@@ -8,7 +8,7 @@ ghost use Prim.Native.Nat.{_≤_, _<_};
 ghost use lib.ListN.{getD};
 ghost use Rattle.refusal.specs.Said.{saidChecked, saidNumber};
 ghost use Rattle.utils.specs.Header.{be16Of, versionOf, paddingBitOf, countOf, typeOf, lengthOf};
-ghost use Rattle.utils.specs.Check.{field, paddingByte, ownLength, ownPadding, checkPacket};
+ghost use Rattle.utils.specs.Check.{field, paddingByte, ownLength, checkLength, ownPadding, checkPacket};
 ghost use Rattle.utils.specs.Said.{saidPadded};
 
 // A packet is at least its header, and at most what its length field can say.
@@ -24,7 +24,7 @@ pub enum Padded {
 }
 
 // The byte at a place, 0 past the end.
-pub fn byte_at(s: &[u8], at: usize) -> u8
+fn byte_at(s: &[u8], at: usize) -> u8
     ensures { λ r. ⌜ r ≡ getD (now (s .entry)) at 0 ⌝ }
 {
     if at < s.len() { s[at] } else { 0 }
@@ -38,7 +38,7 @@ fn wide(byte: u8) -> usize
 }
 
 // The big-endian number in the two bytes at a place.
-pub fn be16_at(s: &[u8], at: usize) -> usize
+fn be16_at(s: &[u8], at: usize) -> usize
     ensures { λ r. ⌜ (r ≡ be16Of (now (s .entry)) at) × (r < 65536) ⌝ }
 {
     if at < s.len() {
@@ -49,31 +49,31 @@ pub fn be16_at(s: &[u8], at: usize) -> usize
 }
 
 // The fields without a test: bytes that are missing count as 0.
-pub fn version_of(packet: &[u8]) -> u8
+fn version_of(packet: &[u8]) -> u8
     ensures { λ r. ⌜ r ≡ versionOf (now (packet .entry)) ⌝ }
 {
     byte_at(packet, 0) / 64
 }
 
-pub fn padding_bit_of(packet: &[u8]) -> u8
+fn padding_bit_of(packet: &[u8]) -> u8
     ensures { λ r. ⌜ r ≡ paddingBitOf (now (packet .entry)) ⌝ }
 {
     byte_at(packet, 0) / 32 % 2
 }
 
-pub fn count_of(packet: &[u8]) -> u8
+fn count_of(packet: &[u8]) -> u8
     ensures { λ r. ⌜ r ≡ countOf (now (packet .entry)) ⌝ }
 {
     byte_at(packet, 0) % 32
 }
 
-pub fn type_of(packet: &[u8]) -> u8
+fn type_of(packet: &[u8]) -> u8
     ensures { λ r. ⌜ r ≡ typeOf (now (packet .entry)) ⌝ }
 {
     byte_at(packet, 1)
 }
 
-pub fn length_of(packet: &[u8]) -> usize
+fn length_of(packet: &[u8]) -> usize
     ensures { λ r. ⌜ (r ≡ lengthOf (now (packet .entry))) × (4 ≤ r) × (r ≤ 262144) ⌝ }
 {
     4 * (be16_at(packet, 2) + 1)
@@ -146,7 +146,7 @@ pub fn parse_padding(packet: &[u8]) -> Padded
 }
 
 // Whether a packet that has its header is as long as it says.
-pub fn check_length(packet: &[u8]) -> Checked
+fn own_length(packet: &[u8]) -> Checked
     ensures { λ r. ⌜ saidChecked r ≡ ownLength (now (packet .entry)) ⌝ }
 {
     let present = packet.len();
@@ -166,8 +166,21 @@ pub fn check_length(packet: &[u8]) -> Checked
     Checked::Fine
 }
 
+// Whether the bytes are one packet, as long as it says.
+pub fn check_length(packet: &[u8]) -> Checked
+    ensures { λ r. ⌜ saidChecked r ≡ checkLength (now (packet .entry)) ⌝ }
+{
+    if packet.len() < SHORTEST {
+        return Checked::No(Refusal::TooShort {
+            expected: SHORTEST,
+            actual: packet.len(),
+        });
+    }
+    own_length(packet)
+}
+
 // Whether a whole packet's padding byte can be right.
-fn check_padding(packet: &[u8]) -> Checked
+fn own_padding(packet: &[u8]) -> Checked
     ensures { λ r. ⌜ saidChecked r ≡ ownPadding (now (packet .entry)) ⌝ }
 {
     if padding_bit_of(packet) == 0 {
@@ -206,8 +219,8 @@ pub fn check_packet(packet: &[u8], least: usize, packet_type: u8) -> Checked
             requested: packet_type,
         });
     }
-    match check_length(packet) {
+    match own_length(packet) {
         Checked::No(r) => Checked::No(r),
-        Checked::Fine => check_padding(packet),
+        Checked::Fine => own_padding(packet),
     }
 }

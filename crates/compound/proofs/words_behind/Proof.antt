@@ -1,6 +1,6 @@
 -- The length field stands in the third and fourth byte.
 use denote.Ref.{now}
-use Rattle.compound.specs.Laws.{words-behind}
+use Rattle.compound.proofs.Laws.{words-behind}
 use borrow.Author.Needs.{needs}
 use Rattle.compound.proofs.words_behind.Statement.{statement}
 use Rattle.compound.proofs.words_behind.Tie as tie

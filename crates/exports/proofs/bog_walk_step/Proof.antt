@@ -4,7 +4,7 @@ use native.Mathlib.Omega.{arith}
 use denote.Ref.{now}
 use Rattle.compound.specs.Walk.{step, walkStep}
 use Rattle.compound.specs.Said.{saidFound}
-use Rattle.compound.specs.Laws.{walk-packet}
+use Rattle.compound.proofs.Laws.{walk-packet}
 use Rattle.compound.specs.declared.Found.{Found}
 use Rattle.exports.specs.Says.{saidOf, walk}
 use borrow.Author.Needs.{needs}

@@ -1,5 +1,5 @@
 -- No refusal has more than the two values that are copied.
-use Rattle.refusal.specs.Told.{two-at-most}
+use Rattle.refusal.proofs.Laws.{two-at-most}
 use Rattle.exports.specs.Says.{saidOf}
 use borrow.Author.Needs.{needs}
 use Rattle.exports.proofs.refused.Statement.{statement}

@@ -3,7 +3,7 @@ use mathlib.Core.Path.{refl, sym}
 use denote.Ref.{now}
 use Rattle.lent.specs.Bytes.{be16Bytes}
 use native.Mathlib.Numerals.{add-one}
-use Rattle.lent.specs.Laws.{sets-past}
+use Rattle.lent.proofs.Laws.{sets-past}
 use borrow.Author.Needs.{needs}
 use Rattle.lent.proofs.put16.Statement.{statement}
 use Rattle.lent.proofs.put16.Tie as tie

@@ -4,7 +4,7 @@ use mathlib.Core.Path.{_∙_}
 use denote.Ref.{now}
 use borrow.Author.Needs.{needs}
 use Rattle.lent.specs.Bytes.{zeroBytes}
-use Rattle.lent.specs.Laws.{length-zeroBytes, getD-zeroBytes, sets-zeros}
+use Rattle.lent.proofs.Laws.{length-zeroBytes, getD-zeroBytes, sets-zeros}
 use Rattle.lent.proofs.Storing.{Storing, storing-start, storing-turn, storing-over}
 use Rattle.lent.proofs.zeros.Statement.{statement}
 use Rattle.lent.proofs.zeros.Tie as tie

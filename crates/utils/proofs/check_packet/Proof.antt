@@ -42,8 +42,8 @@ rest : (c : tie.Else5)
 unfolding checkPacket
 rest c = simp (le-ltb _ _ (c .before .before .before .before .before .before .if1 .left), le-ltb _ _ (c .before .before .before .before .before .if2 .left), le-ltb _ _ (c .before .before .before .before .if3 .left), ← (c .before .before .before .version-of .ensures), eq-eqb _ _ (c .before .before .if4 .left), ← (c .before .type-of .ensures), eq-eqb _ _ (c .if5 .left))
 
-check-length-requires : tie.Need-check-length-requires
-check-length-requires c κs = search needs
+own-length-requires : tie.Need-own-length-requires
+own-length-requires c κs = search needs
 
 enum-known-r : tie.Need-enum-known-r
 enum-known-r c = search needs
@@ -51,18 +51,18 @@ enum-known-r c = search needs
 enum-told : tie.Need-enum-told
 enum-told c = search needs
 
-check-padding-requires : tie.Need-check-padding-requires
-check-padding-requires c κs = search needs
+own-padding-requires : tie.Need-own-padding-requires
+own-padding-requires c κs = search needs
 
 returns-6 : tie.Need-returns-6
 returns-6 c =
     let at = c .before .before .before in
-    rw (rest (at .before), sym (at .check-length .ensures) ∙ ap saidChecked (c .before .r .given .1))
+    rw (rest (at .before), sym (at .own-length .ensures) ∙ ap saidChecked (c .before .r .given .1))
 
 returns-7 : tie.Need-returns-7
 returns-7 c =
     let at = c .before .before .before in
-    rw (rest (at .before), sym (at .check-length .ensures) ∙ ap saidChecked (c .before .enum-told .given .1)) (c .check-padding .ensures)
+    rw (rest (at .before), sym (at .own-length .ensures) ∙ ap saidChecked (c .before .enum-told .given .1)) (c .own-padding .ensures)
 
 pub check-packet-spec : {M : Type 1} → statement M
 check-packet-spec =
@@ -75,9 +75,9 @@ check-packet-spec =
     returns-4
     type-of-requires
     returns-5
-    check-length-requires
+    own-length-requires
     enum-known-r
     enum-told
-    check-padding-requires
+    own-padding-requires
     returns-6
     returns-7)

@@ -7,7 +7,7 @@ use borrow.Author.Needs.{needs}
 use Rattle.compound.specs.Walk.{step}
 use Rattle.compound.specs.Said.{saidFound}
 use Rattle.compound.specs.declared.Found.{Found}
-use Rattle.compound.specs.Laws.{Turned, walk-packet}
+use Rattle.compound.proofs.Laws.{Turned, walk-packet}
 use Rattle.bogslipper.proofs.packets.walk.Statement.{statement}
 use Rattle.bogslipper.proofs.packets.walk.Tie as tie
 

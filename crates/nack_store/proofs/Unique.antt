@@ -3,7 +3,7 @@ use Prim.Native.Nat.{ℕ}
 use mathlib.Core.List.{List}
 use mathlib.Core.Path.{_≡_, refl, ap, sym, _∙_}
 use Rattle.refusal.specs.Said.{saidNumber}
-use Rattle.refusal.specs.Unique.{no-unique, checked-unique, number-unique}
+use Rattle.refusal.proofs.Unique.{no-unique, checked-unique, number-unique}
 use Rattle.refusal.specs.declared.Checked.{Checked}
 use Rattle.refusal.specs.declared.Number.{Number}
 use Rattle.nack_store.specs.Bits.{added, removed, emptyStore}

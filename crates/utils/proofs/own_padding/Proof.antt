@@ -2,8 +2,8 @@
 use borrow.Author.Tests.{eq-eqb, ne-eqb}
 use Rattle.utils.specs.Check.{ownPadding}
 use borrow.Author.Needs.{needs}
-use Rattle.utils.proofs.check_padding.Statement.{statement}
-use Rattle.utils.proofs.check_padding.Tie as tie
+use Rattle.utils.proofs.own_padding.Statement.{statement}
+use Rattle.utils.proofs.own_padding.Tie as tie
 
 padding-bit-of-requires : tie.Need-padding-bit-of-requires
 padding-bit-of-requires c κs = search needs
@@ -29,8 +29,8 @@ returns-3 : tie.Need-returns-3
 unfolding ownPadding
 returns-3 c = simp (← (c .before .before .before .before .padding-bit-of .ensures), ne-eqb _ _ (c .before .before .before .if1 .left), ← (c .before .before .length-of .ensures .0), ← (c .before .byte-at .ensures), ne-eqb _ _ (c .if2 .left))
 
-pub check-padding-spec : {M : Type 1} → statement M
-check-padding-spec =
+pub own-padding-spec : {M : Type 1} → statement M
+own-padding-spec =
     tie.close
     (tie.spec
     padding-bit-of-requires

@@ -3,7 +3,7 @@ use Prim.Native.Nat.{ℕ}
 use mathlib.Core.List.{List}
 use mathlib.Core.Path.{_≡_}
 use Rattle.refusal.specs.declared.Number.{Number}
-use Rattle.nack.specs.Unique.{filled-unique}
+use Rattle.nack.proofs.Unique.{filled-unique}
 use Rattle.nack_read.specs.Promise.{Read}
 
 pub read-unique : (bytes list : List ℕ) {r q : Number} {new other : List ℕ} → Read bytes list r new → Read bytes list q other → (r ≡ q) × (new ≡ other)

@@ -3,7 +3,7 @@ use Prim.Native.Nat.{ℕ}
 use mathlib.Core.List.{List}
 use mathlib.Core.Path.{_≡_, sym, _∙_}
 use Rattle.refusal.specs.Outcome.{Outcome}
-use Rattle.refusal.specs.Unique.{number-unique}
+use Rattle.refusal.proofs.Unique.{number-unique}
 use Rattle.refusal.specs.declared.Number.{Number}
 use Rattle.nack.specs.Promise.{Filled}
 

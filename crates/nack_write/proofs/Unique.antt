@@ -3,7 +3,7 @@ use Prim.Native.Nat.{ℕ}
 use mathlib.Core.List.{List}
 use mathlib.Core.Path.{_≡_}
 use Rattle.refusal.specs.declared.Number.{Number}
-use Rattle.nack.specs.Unique.{filled-unique}
+use Rattle.nack.proofs.Unique.{filled-unique}
 use Rattle.nack_write.specs.Promise.{Wrote}
 
 pub write-unique : (store out : List ℕ) {r q : Number} {new other : List ℕ} → Wrote store out r new → Wrote store out q other → (r ≡ q) × (new ≡ other)

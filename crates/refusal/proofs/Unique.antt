@@ -8,11 +8,13 @@ use lib.IntN.{ℤ, natAbs, pos}
 use lib.ListN.{getD}
 use Rattle.refusal.specs.Number.{numberOf, valuesOf, no}
 use Rattle.refusal.specs.Said.{saidChecked, saidNumber}
+use Rattle.refusal.specs.Told.{Tells}
 use Rattle.refusal.specs.declared.Checked.{Checked}
 use Rattle.refusal.specs.declared.Checked.the-variants as checked
 use Rattle.refusal.specs.declared.Number.{Number}
 use Rattle.refusal.specs.declared.Number.the-variants as number
 use Rattle.refusal.specs.declared.Refusal.{Refusal}
+use Rattle.refusal.specs.declared.Told.{Told}
 use Rattle.refusal.specs.declared.Refusal.the-variants.{TooShort, Version, PacketType, TooLong, Padding, Count, UnevenPadding, Time, Body, Word, ListLength, Limit, Room, Store, Least}
 
 -- the value at a place
@@ -72,3 +74,8 @@ number-unique (number.Is m) (number.Is n) same = cc
 number-unique (number.Is m) (number.No r) same = cc
 number-unique (number.No r) (number.Is n) same = cc
 number-unique (number.No r) (number.No q) same = ap number.No (no-unique r q same)
+
+-- what is told of a refusal is one struct
+pub tells-unique : (r : Refusal) (a b : Told) → Tells r a → Tells r b → a ≡ b
+tells-unique r a b p q i =
+    record { number = (p .number ∙ sym (q .number)) i; first = (p .first ∙ sym (q .first)) i; second = (p .second ∙ sym (q .second)) i }

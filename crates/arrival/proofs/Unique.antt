@@ -3,7 +3,7 @@ use Prim.Native.Nat.{ℕ}
 use mathlib.Core.Path.{_≡_, sym, ap, _∙_}
 use lib.IntN.{ℤ}
 use Rattle.refusal.specs.Told.{bits64}
-use Rattle.refusal.specs.Unique.{no-unique}
+use Rattle.refusal.proofs.Unique.{no-unique}
 use Rattle.kinds.specs.declared.Tick.{Tick}
 use Rattle.arrival.specs.Arrival.{saidArrived}
 use Rattle.arrival.specs.declared.Arrived.{Arrived}

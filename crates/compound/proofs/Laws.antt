@@ -1,7 +1,7 @@
--- Laws of one packet, of one turn of the pass, of the pass, and of one step of the walk: what callers use instead of the definitions' text.
+-- Laws of one turn of the pass, of the pass, and of one step of the walk: what callers use instead of the definitions' text.
 use Prim.Native.Nat.{ℕ, zero, suc, _+_, _*_, _-_, _/_, _%_, _≤_, _<_}
 use mathlib.Core.List.{List, [], _∷_}
-use mathlib.Core.Path.{_≡_, refl, sym, _∙_}
+use mathlib.Core.Path.{_≡_, refl, sym, ap, _∙_}
 use mathlib.Core.Bool.{Bool, true, false, cond, not}
 use native.Mathlib.Omega.{arith}
 use borrow.Author.Tests.{ltb-false, lt-ltb, le-ltb, lt-leb, le-leb, eq-eqb, ne-eqb}
@@ -12,15 +12,10 @@ use lib.ListN.{length, getD, drop}
 use lib.Seq.{getD-drop}
 use Rattle.refusal.specs.Outcome.{gave, refused, refuse}
 use Rattle.utils.specs.Header.{versionOf, paddingBitOf, lengthOf}
-use Rattle.utils.specs.Check.{ownLength}
-use Rattle.compound.specs.Unknown.{unknown}
 use Rattle.compound.specs.Pass.{endOf, firstTurn, passFrom, firstPass}
-use Rattle.compound.specs.Walk.{walkStep, step, over, packet, last}
-
--- one packet of version 2 that is as long as it says is accepted
-pub unknown-whole : (bytes : List ℕ) → 4 ≤ length bytes → versionOf bytes ≡ 2 → lengthOf bytes ≡ length bytes → unknown bytes ≡ gave tt
-unfolding unknown ownLength
-unknown-whole bytes header two whole = simp (le-ltb (length bytes) 4 header, eq-eqb (versionOf bytes) 2 two, whole, le-ltb (length bytes) (length bytes) (omega arith))
+use Rattle.compound.specs.Walk.{walkStep, step, over, packet, packetAt, last}
+use Rattle.compound.specs.Inner.{WordsBehind}
+use Rattle.compound.specs.declared.Packet.{Packet}
 
 -- the header's fields of the packet that starts at an offset, read off the whole bytes
 pub version-at : (bytes : List ℕ) (at : ℕ) → versionOf (drop at bytes) ≡ getD bytes at 0 / 64
@@ -30,10 +25,6 @@ pub padding-at : (bytes : List ℕ) (at : ℕ) → paddingBitOf (drop at bytes) 
 padding-at bytes at = simp (getD-drop, add-zero)
 
 -- the length field of the packet that starts at an offset
-pub record WordsBehind (bytes : List ℕ) (at words : ℕ) : Type 0 where
-  pub few : words < 65536
-  pub ends : at + 4 + 4 * words ≡ endOf bytes at
-
 pub words-behind : (bytes : List ℕ) (at high low : ℕ) → high ≡ getD bytes (at + 2) 0 → low ≡ getD bytes (at + 3) 0 → high < 256 → low < 256
     → WordsBehind bytes at (256 * high + low)
 words-behind bytes at high low h l small small′ =
@@ -64,7 +55,7 @@ module _ (bytes : List ℕ) (at n : ℕ) (ends : n ≡ endOf bytes at) (header :
   turn-last two whole end set = turn-set two whole set ∙ simp (le-ltb n (length bytes) end)
 
   walk-header : walkStep bytes at
-      ≡ cond (ltb (length bytes) n) (last bytes (refuse 1 (n ∷ length bytes ∷ []))) (cond (not (eqb (getD bytes at 0 / 64) 2)) (last bytes (refuse 2 (getD bytes at 0 / 64 ∷ []))) (step (gave packet) n))
+      ≡ cond (ltb (length bytes) n) (last bytes (refuse 1 (n ∷ length bytes ∷ []))) (cond (not (eqb (getD bytes at 0 / 64) 2)) (last bytes (refuse 2 (getD bytes at 0 / 64 ∷ []))) (step (gave (packet (packetAt bytes at))) n))
   unfolding walkStep
   walk-header = let more : at < length bytes = omega arith in simp (lt-leb (length bytes) at more, le-ltb (length bytes) (at + 4) header, ← ends, version-at bytes at)
 
@@ -74,8 +65,10 @@ module _ (bytes : List ℕ) (at n : ℕ) (ends : n ≡ endOf bytes at) (header :
   pub walk-other : n ≤ length bytes → (getD bytes at 0 / 64 ≡ 2 → ⊥) → walkStep bytes at ≡ last bytes (refuse 2 (getD bytes at 0 / 64 ∷ []))
   walk-other whole other = walk-header ∙ simp (le-ltb (length bytes) n whole, ne-eqb (getD bytes at 0 / 64) 2 other)
 
-  pub walk-whole : n ≤ length bytes → getD bytes at 0 / 64 ≡ 2 → walkStep bytes at ≡ step (gave packet) n
-  walk-whole whole two = walk-header ∙ simp (le-ltb (length bytes) n whole, eq-eqb (getD bytes at 0 / 64) 2 two)
+  pub walk-whole : n ≤ length bytes → getD bytes at 0 / 64 ≡ 2 → walkStep bytes at ≡ step (gave (packet (record { start = at; length = n - at }))) n
+  walk-whole whole two =
+      let own : lengthOf (drop at bytes) ≡ n - at = omega arith in
+      walk-header ∙ simp (le-ltb (length bytes) n whole, eq-eqb (getD bytes at 0 / 64) 2 two) (ap (λ (size : ℕ). step (gave (packet (record { start = at; length = size }))) n) own)
 
 -- no header stands there
 pub turn-short : (bytes : List ℕ) (at : ℕ) → length bytes < at + 4 → firstTurn bytes at ≡ refuse 1 ((at + 4) ∷ length bytes ∷ [])
@@ -173,10 +166,15 @@ unfolding firstTurn
 pass-version bytes header other =
     passing-no _ _ (omega arith) (simp (le-ltb (length bytes) 4 header, ne-eqb (versionOf bytes) 2 other)) (passing-start bytes (omega arith))
 
--- a packet that the walk hands back lies within the bytes and has four bytes at least
-pub walk-packet : (bytes : List ℕ) (at next : ℕ) → walkStep bytes at ≡ step (gave packet) next → Turned bytes at next
+-- a packet that the walk hands back starts there and ends where the walk goes on; it lies within the bytes and has four bytes at least
+pub record Handed (bytes : List ℕ) (at next : ℕ) (p : Packet) : Type 0 where
+  pub starts : p .start ≡ at
+  pub size : p .length ≡ next - at
+  pub turned : Turned bytes at next
+
+pub walk-packet : (bytes : List ℕ) (at next : ℕ) (p : Packet) → walkStep bytes at ≡ step (gave (packet p)) next → Handed bytes at next p
 unfolding walkStep
-walk-packet bytes at next steps =
+walk-packet bytes at next p steps =
     go (leb (length bytes) at) (ltb (length bytes) (at + 4)) (ltb (length bytes) (endOf bytes at)) (not (eqb (versionOf (drop at bytes)) 2)) refl steps
   where
     e : ℕ
@@ -184,9 +182,12 @@ walk-packet bytes at next steps =
 
     go : (b₁ b₂ b₃ b₄ : Bool) → ltb (length bytes) e ≡ b₃
         → cond b₁ (last bytes (gave over)) (cond b₂ (last bytes (refuse 1 ((at + 4) ∷ length bytes ∷ []))) (cond b₃ (last bytes (refuse 1 (e ∷ length bytes ∷ [])))
-        (cond b₄ (last bytes (refuse 2 (versionOf (drop at bytes) ∷ []))) (step (gave packet) e)))) ≡ step (gave packet) next → Turned bytes at next
-    go true b₂ b₃ b₄ past p = let z : _≡_ {A = ℕ} 0 1 = cc in absurd (omega arith)
-    go false true b₃ b₄ past p = let z : _≡_ {A = ℕ} 0 1 = cc in absurd (omega arith)
-    go false false true b₄ past p = let z : _≡_ {A = ℕ} 0 1 = cc in absurd (omega arith)
-    go false false false true past p = let z : _≡_ {A = ℕ} 0 1 = cc in absurd (omega arith)
-    go false false false false past p = let z : next ≡ e = cc in record { moves = omega arith; within = omega (arith, ltb-false (length bytes) e past); ends = z }
+        (cond b₄ (last bytes (refuse 2 (versionOf (drop at bytes) ∷ []))) (step (gave (packet (packetAt bytes at))) e)))) ≡ step (gave (packet p)) next → Handed bytes at next p
+    go true b₂ b₃ b₄ past s = let z : _≡_ {A = ℕ} 0 1 = cc in absurd (omega arith)
+    go false true b₃ b₄ past s = let z : _≡_ {A = ℕ} 0 1 = cc in absurd (omega arith)
+    go false false true b₄ past s = let z : _≡_ {A = ℕ} 0 1 = cc in absurd (omega arith)
+    go false false false true past s = let z : _≡_ {A = ℕ} 0 1 = cc in absurd (omega arith)
+    go false false false false past s =
+        let z : next ≡ e = cc in
+        let own : p .length ≡ lengthOf (drop at bytes) = cc in
+        record { starts = cc; size = omega arith; turned = record { moves = omega arith; within = omega (arith, ltb-false (length bytes) e past); ends = z } }

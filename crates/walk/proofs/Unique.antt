@@ -1,12 +1,13 @@
--- No slack: two outcomes that satisfy one promise agree. A walk is promised whole; a part, by what it reads.
+-- No slack: two outcomes that satisfy one promise agree. A walk is promised whole; a part, by what it reads and where it stands.
 use Prim.Native.Nat.{ℕ}
 use mathlib.Core.List.{List}
 use mathlib.Core.Path.{_≡_, ap₂, sym, _∙_}
 use denote.Ref.{RefT, now}
-use Rattle.compound.specs.Unique.{walk-unique}
+use Rattle.lent.proofs.Unique.{SamePart}
+use Rattle.compound.proofs.Unique.{walk-unique, walk-part-unique}
 use Rattle.compound.specs.Walk.{walkNext}
 use Rattle.compound.specs.declared.Walked.{Walked}
-use Rattle.walk.specs.Promises.{Starts, Steps, Reads, Follows, ReadsSecond}
+use Rattle.walk.specs.Promises.{Starts, Steps, HandsBackPart, Follows}
 use Rattle.walk.specs.declared.Compound.{Compound}
 
 same : (bytes : RefT (List ℕ)) (offset : ℕ) (a b : Compound) → (a .bytes ≡ bytes) × (a .offset ≡ offset) → (b .bytes ≡ bytes) × (b .offset ≡ offset) → a ≡ b
@@ -18,11 +19,8 @@ new-unique bytes = same bytes 0
 pub step-unique : (c : Compound) (a b : Walked) → Steps c a → Steps c b → a ≡ b
 step-unique c = walk-unique (now (c .bytes)) (c .offset)
 
-pub part-unique : (c : Compound) (a b : RefT (List ℕ)) → Reads c a → Reads c b → now a ≡ now b
-part-unique c a b p q = p ∙ sym q
+pub part-unique : (c : Compound) (a b : RefT (List ℕ)) → HandsBackPart c a → HandsBackPart c b → SamePart a b
+part-unique c = walk-part-unique (c .bytes) (c .offset)
 
 pub advance-unique : (c a b : Compound) → Follows c a → Follows c b → a ≡ b
 advance-unique c = same (c .bytes) (walkNext (now (c .bytes)) (c .offset))
-
-pub second-unique : (bytes a b : RefT (List ℕ)) → ReadsSecond bytes a → ReadsSecond bytes b → now a ≡ now b
-second-unique bytes a b p q = p ∙ sym q

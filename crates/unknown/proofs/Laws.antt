@@ -1,15 +1,24 @@
--- The size of a packet's bytes.
-use Prim.Native.Nat.{ℕ, _+_, _-_}
+-- Laws of a packet of any type: that it is accepted, and the size of its bytes.
+use Prim.Native.Nat.{ℕ, _+_, _-_, _≤_}
 use mathlib.Core.List.{List, [], _∷_, _++_}
 use mathlib.Core.Path.{_≡_, refl}
 use mathlib.Core.Bool.{Bool, true, false, cond}
 use native.Mathlib.Omega.{arith}
-use borrow.Author.Tests.{eqb-true, eqb-false}
+use borrow.Author.Tests.{eqb-true, eqb-false, eq-eqb, le-ltb}
 use lib.Dec.{eqb}
 use lib.ListN.{length, length-append}
+use Rattle.refusal.specs.Outcome.{gave}
 use Rattle.lent.specs.Bytes.{zeroBytes}
-use Rattle.lent.specs.Laws.{length-zeroBytes}
+use Rattle.lent.proofs.Laws.{length-zeroBytes}
+use Rattle.utils.specs.Header.{versionOf, lengthOf}
+use Rattle.utils.specs.Check.{ownLength}
+use Rattle.unknown.specs.Parse.{unknown}
 use Rattle.unknown.specs.Packet.{sizeOf, bodyBytes, padBytes, packetBytes}
+
+-- one packet of version 2 that is as long as it says is accepted
+pub unknown-whole : (bytes : List ℕ) → 4 ≤ length bytes → versionOf bytes ≡ 2 → lengthOf bytes ≡ length bytes → unknown bytes ≡ gave tt
+unfolding unknown ownLength
+unknown-whole bytes header two whole = simp (le-ltb (length bytes) 4 header, eq-eqb (versionOf bytes) 2 two, whole, le-ltb (length bytes) (length bytes) (omega arith))
 
 pub length-padBytes : (padding : ℕ) → length (padBytes padding) ≡ padding
 unfolding padBytes
