@@ -103,7 +103,7 @@ impl FusedIterator for Compound<'_> {}
 pub fn walk_step(data: &[u8], offset: usize) -> Result<Option<(&[u8], usize)>, Refusal> {
     // SAFETY: the call reads the slice alone and keeps nothing of it.
     let said = unsafe { bog_walk_step(data.as_ptr(), data.len(), offset as u64) };
-    let [over, next, start, length, _] = said.answer()?;
+    let [over, next, start, length, ..] = said.answer()?;
     if over == 1 {
         return Ok(None);
     }

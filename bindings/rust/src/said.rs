@@ -6,12 +6,12 @@ use crate::Refusal;
 #[repr(C)]
 pub(crate) struct Said {
     number: u64,
-    values: [u64; 5],
+    values: [u64; 8],
 }
 
 impl Said {
     /// The answer's values. They fit the types that the callers of this crate get: the library's contracts bound them.
-    pub(crate) fn answer(self) -> Result<[u64; 5], Refusal> {
+    pub(crate) fn answer(self) -> Result<[u64; 8], Refusal> {
         match self.number {
             0 => Ok(self.values),
             number => Err(Refusal::new(number, self.values)),

@@ -183,7 +183,7 @@ pub struct TwccHeader {
 pub fn read(block: &[u8], list: &mut [i32]) -> Result<TwccHeader, Refusal> {
     // SAFETY: the call reads the block and writes the list, which do not overlap, and keeps nothing of either.
     let said = unsafe { bog_twcc_read(block.as_ptr(), block.len(), list.as_mut_ptr(), list.len()) };
-    let [base, status_count, reference_time, feedback, listed] = said.answer()?;
+    let [base, status_count, reference_time, feedback, listed, ..] = said.answer()?;
     Ok(TwccHeader {
         base: base as u16,
         status_count: status_count as u16,

@@ -12,6 +12,8 @@ use twcc_read::Reading;
 use twcc_write::Written;
 use utils::Padded;
 ghost use mathlib.Core.Path.{_≡_};
+ghost use mathlib.Core.List.{[], _∷_};
+ghost use lib.IntN.{pos};
 ghost use Rattle.refusal.specs.Number.{no};
 ghost use Rattle.refusal.specs.Said.{saidChecked, saidNumber};
 ghost use Rattle.utils.specs.Header.{versionOf, paddingBitOf, countOf, typeOf, lengthOf};
@@ -21,23 +23,60 @@ ghost use Rattle.compound.specs.Pass.{firstPass};
 ghost use Rattle.compound.specs.Walk.{walkStep};
 ghost use Rattle.arrival.specs.Arrival.{arrivalOf};
 ghost use Rattle.twcc_write.specs.Promise.{saidWritten};
-ghost use Rattle.exports.specs.Says.{saidOf, nothing, number, signed, padding, walk, block};
+ghost use Rattle.exports.specs.Says.{says, saidOf, nothing, number, signed, padding, walk, block};
 ghost use Rattle.exports.specs.Wrote.{WroteUnknown, AddedNack, ReadNack, WroteNack, ReadTwcc, given, WroteTwcc};
 
 // Number 0 and the answer's values, or a refusal's number and its values; the rest 0.
 #[repr(C)]
 pub struct Said {
     pub number: u64,
-    pub values: [u64; 5],
+    pub values: [u64; 8],
+}
+
+// Answers by how many values they have.
+
+fn five(a: u64, b: u64, c: u64, d: u64, e: u64) -> Said
+    ensures { λ s. ⌜ s ≡ says 0 (pos a ∷ pos b ∷ pos c ∷ pos d ∷ pos e ∷ []) ⌝ }
+{
+    Said {
+        number: 0,
+        values: [a, b, c, d, e, 0, 0, 0],
+    }
+}
+
+fn four(a: u64, b: u64, c: u64, d: u64) -> Said
+    ensures { λ s. ⌜ s ≡ says 0 (pos a ∷ pos b ∷ pos c ∷ pos d ∷ []) ⌝ }
+{
+    five(a, b, c, d, 0)
+}
+
+fn two(a: u64, b: u64) -> Said
+    ensures { λ s. ⌜ s ≡ says 0 (pos a ∷ pos b ∷ []) ⌝ }
+{
+    four(a, b, 0, 0)
+}
+
+fn one(a: u64) -> Said
+    ensures { λ s. ⌜ s ≡ says 0 (pos a ∷ []) ⌝ }
+{
+    two(a, 0)
+}
+
+fn none() -> Said
+    ensures { λ s. ⌜ s ≡ says 0 [] ⌝ }
+{
+    one(0)
 }
 
 fn refused(r: Refusal) -> Said
     ensures { λ s. ⌜ s ≡ saidOf (no r) ⌝ }
 {
     let told = refusal::tell(r);
+    let said = two(told.first, told.second);
+    let values = said.values;
     Said {
         number: told.number,
-        values: [told.first, told.second, 0, 0, 0],
+        values: values,
     }
 }
 
@@ -45,10 +84,7 @@ fn said_checked(answer: Checked) -> Said
     ensures { λ s. ⌜ s ≡ saidOf (nothing (saidChecked answer)) ⌝ }
 {
     match answer {
-        Checked::Fine => Said {
-            number: 0,
-            values: [0, 0, 0, 0, 0],
-        },
+        Checked::Fine => none(),
         Checked::No(r) => refused(r),
     }
 }
@@ -57,10 +93,7 @@ fn said_number(answer: Number) -> Said
     ensures { λ s. ⌜ s ≡ saidOf (number (saidNumber answer)) ⌝ }
 {
     match answer {
-        Number::Is(n) => Said {
-            number: 0,
-            values: [n as u64, 0, 0, 0, 0],
-        },
+        Number::Is(n) => one(n as u64),
         Number::No(r) => refused(r),
     }
 }
@@ -105,14 +138,8 @@ pub extern "C" fn bog_padding(packet: &[u8]) -> Said
     ensures { λ s. ⌜ s ≡ saidOf (padding (paddingByte (now (packet .entry)))) ⌝ }
 {
     match utils::parse_padding(packet) {
-        Padded::Clear => Said {
-            number: 0,
-            values: [0, 0, 0, 0, 0],
-        },
-        Padded::Byte(byte) => Said {
-            number: 0,
-            values: [1, byte as u64, 0, 0, 0],
-        },
+        Padded::Clear => one(0),
+        Padded::Byte(byte) => two(1, byte as u64),
         Padded::No(r) => refused(r),
     }
 }
@@ -147,14 +174,8 @@ pub extern "C" fn bog_walk_step(bytes: &[u8], offset: u64) -> Said
     let next = walked.next;
     let found = walked.found;
     match found {
-        Found::Packet => Said {
-            number: 0,
-            values: [0, next as u64, at as u64, (next - at) as u64, 0],
-        },
-        Found::Over => Said {
-            number: 0,
-            values: [1, next as u64, 0, 0, 0],
-        },
+        Found::Packet => four(0, next as u64, at as u64, (next - at) as u64),
+        Found::Over => two(1, next as u64),
         Found::No(r) => refused(r),
     }
 }
@@ -203,16 +224,13 @@ pub extern "C" fn bog_twcc_read(block: &[u8], list: &mut [i32]) -> Said
             let header = listed.header;
             let base = header.base;
             let time = header.time;
-            Said {
-                number: 0,
-                values: [
-                    base.0 as u64,
-                    header.statuses as u64,
-                    time.0 as u64,
-                    header.feedback as u64,
-                    count as u64,
-                ],
-            }
+            five(
+                base.0 as u64,
+                header.statuses as u64,
+                time.0 as u64,
+                header.feedback as u64,
+                count as u64,
+            )
         }
         Reading::No(r) => refused(r),
     }
@@ -223,10 +241,7 @@ pub extern "C" fn bog_arrival(time: u32, delta: i16) -> Said
     ensures { λ s. ⌜ s ≡ saidOf (signed (arrivalOf time delta)) ⌝ }
 {
     match arrival::arrival(RefTime(time), delta) {
-        Arrived::At(tick) => Said {
-            number: 0,
-            values: [arrival::bits(tick), 0, 0, 0, 0],
-        },
+        Arrived::At(tick) => one(arrival::bits(tick)),
         Arrived::No(r) => refused(r),
     }
 }
@@ -235,10 +250,7 @@ fn said_written(answer: Written) -> Said
     ensures { λ s. ⌜ s ≡ saidOf (block (saidWritten answer)) ⌝ }
 {
     match answer {
-        Written::Block(used) => Said {
-            number: 0,
-            values: [used.bytes as u64, used.taken as u64, 0, 0, 0],
-        },
+        Written::Block(used) => two(used.bytes as u64, used.taken as u64),
         Written::No(r) => refused(r),
     }
 }

@@ -7,7 +7,7 @@
 #[derive(Clone, Copy, Debug, PartialEq, Eq)]
 pub struct Said {
     pub number: u64,
-    pub values: [u64; 5],
+    pub values: [u64; 8],
 }
 
 impl Said {
@@ -18,7 +18,7 @@ impl Said {
     pub fn refusal(number: u64, values: &[u64]) -> Said {
         let mut said = Said {
             number,
-            values: [0; 5],
+            values: [0; 8],
         };
         said.values[..values.len()].copy_from_slice(values);
         said
