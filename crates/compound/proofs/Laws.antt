@@ -10,6 +10,7 @@ use lib.IntN.{ℤ}
 use native.Mathlib.Nat.{add-zero}
 use lib.ListN.{length, getD, drop}
 use lib.Seq.{getD-drop}
+use Rattle.octets.proofs.Logic.{never}
 use Rattle.refusal.specs.Outcome.{gave, refused, refuse}
 use Rattle.utils.specs.Header.{versionOf, paddingBitOf, lengthOf}
 use Rattle.compound.specs.Pass.{endOf, firstTurn, passFrom, firstPass}
@@ -25,12 +26,11 @@ pub padding-at : (bytes : List ℕ) (at : ℕ) → paddingBitOf (drop at bytes) 
 padding-at bytes at = simp (getD-drop, add-zero)
 
 -- the length field of the packet that starts at an offset
-pub words-behind : (bytes : List ℕ) (at high low : ℕ) → high ≡ getD bytes (at + 2) 0 → low ≡ getD bytes (at + 3) 0 → high < 256 → low < 256
-    → WordsBehind bytes at (256 * high + low)
-words-behind bytes at high low h l small small′ =
-    let first : getD (drop at bytes) 2 0 ≡ high = getD-drop at bytes 2 0 ∙ sym h in
-    let second : getD (drop at bytes) (2 + 1) 0 ≡ low = getD-drop at bytes 3 0 ∙ sym l in
-    record { few = omega arith; ends = omega arith }
+pub words-behind : (bytes : List ℕ) (at words : ℕ) → words ≡ 256 * getD bytes (at + 2) 0 + getD bytes (at + 3) 0 → words < 65536 → WordsBehind bytes at words
+words-behind bytes at words is small =
+    let high = getD-drop at bytes 2 0 in
+    let low = getD-drop at bytes 3 0 in
+    record { few = small; ends = omega (arith, high, low, is) }
 
 -- what a turn and a step come to, test by test, at an offset where a header stands; n is where its packet ends
 module _ (bytes : List ℕ) (at n : ℕ) (ends : n ≡ endOf bytes at) (header : at + 4 ≤ length bytes) where
@@ -101,10 +101,10 @@ turn-on bytes at next goes =
     go : (b₁ b₂ b₃ b₄ b₅ : Bool) → ltb (length bytes) e ≡ b₃
         → cond b₁ (refuse 1 ((at + 4) ∷ length bytes ∷ [])) (cond b₂ (refuse 2 (versionOf bytes ∷ [])) (cond b₃ (refuse 1 (e ∷ length bytes ∷ []))
         (cond b₄ (gave e) (cond b₅ (refuse 5 []) (gave e))))) ≡ gave next → Turned bytes at next
-    go true b₂ b₃ b₄ b₅ past p = let z : _≡_ {A = ℕ} 0 1 = cc in absurd (omega arith)
-    go false true b₃ b₄ b₅ past p = let z : _≡_ {A = ℕ} 0 1 = cc in absurd (omega arith)
-    go false false true b₄ b₅ past p = let z : _≡_ {A = ℕ} 0 1 = cc in absurd (omega arith)
-    go false false false false true past p = let z : _≡_ {A = ℕ} 0 1 = cc in absurd (omega arith)
+    go true b₂ b₃ b₄ b₅ past p = never (cc)
+    go false true b₃ b₄ b₅ past p = never (cc)
+    go false false true b₄ b₅ past p = never (cc)
+    go false false false false true past p = never (cc)
     go false false false true b₅ past p = let z : next ≡ e = cc in record { moves = omega arith; within = omega (arith, ltb-false (length bytes) e past); ends = z }
     go false false false false false past p = let z : next ≡ e = cc in record { moves = omega arith; within = omega (arith, ltb-false (length bytes) e past); ends = z }
 
@@ -183,10 +183,10 @@ walk-packet bytes at next p steps =
     go : (b₁ b₂ b₃ b₄ : Bool) → ltb (length bytes) e ≡ b₃
         → cond b₁ (last bytes (gave over)) (cond b₂ (last bytes (refuse 1 ((at + 4) ∷ length bytes ∷ []))) (cond b₃ (last bytes (refuse 1 (e ∷ length bytes ∷ [])))
         (cond b₄ (last bytes (refuse 2 (versionOf (drop at bytes) ∷ []))) (step (gave (packet (packetAt bytes at))) e)))) ≡ step (gave (packet p)) next → Handed bytes at next p
-    go true b₂ b₃ b₄ past s = let z : _≡_ {A = ℕ} 0 1 = cc in absurd (omega arith)
-    go false true b₃ b₄ past s = let z : _≡_ {A = ℕ} 0 1 = cc in absurd (omega arith)
-    go false false true b₄ past s = let z : _≡_ {A = ℕ} 0 1 = cc in absurd (omega arith)
-    go false false false true past s = let z : _≡_ {A = ℕ} 0 1 = cc in absurd (omega arith)
+    go true b₂ b₃ b₄ past s = never (cc)
+    go false true b₃ b₄ past s = never (cc)
+    go false false true b₄ past s = never (cc)
+    go false false false true past s = never (cc)
     go false false false false past s =
         let z : next ≡ e = cc in
         let own : p .length ≡ lengthOf (drop at bytes) = cc in

@@ -9,16 +9,13 @@ use borrow.Author.Tests.{ltb-true, ltb-false, lt-ltb, le-ltb, lt-leb, eq-eqb}
 use lib.Dec.{eqb, ltb}
 use lib.ListN.{length, take, drop, drop-of-length-le, take-append-drop}
 use lib.Seq.{getD-take, drop-drop}
+use Rattle.octets.proofs.Logic.{by-test, never}
 use Rattle.refusal.specs.Outcome.{Outcome, gave, refused, refuse, andThen}
 use Rattle.utils.specs.Header.{versionOf, lengthOf}
 use Rattle.compound.specs.Pass.{endOf, firstTurn, passFrom, firstPass}
 use Rattle.compound.specs.Walk.{step, packet, packetAt, last, walkStep}
 use Rattle.compound.specs.Packets.{bytesIn, packetsFrom, walkedFrom, packetsIn, walkedIn, upToOther, endToEnd, AllVersion2, empty, first}
 use Rattle.compound.proofs.Laws.{Turned, turn-on, pass-start, walk-over}
-
-by-test : {X : Type 0} (b : Bool) → (b ≡ true → X) → (b ≡ false → X) → X
-by-test true holds fails = holds refl
-by-test false holds fails = fails refl
 
 -- a pass that accepts what is left has a turn that goes on, or is at the end
 pub data Accepted (most : ℕ) (bytes : List ℕ) (at : ℕ) : Type 0 where
@@ -36,7 +33,7 @@ accepted most bytes at passes =
     go (gave next) goes more rest =
         let t = turn-on bytes at next goes in
         turned more (rw (t .ends) at t) (rw (t .ends) at rest)
-    go (refused number values) refuses more rest = let z : _≡_ {A = ℕ} 0 1 = cc in absurd (omega arith)
+    go (refused number values) refuses more rest = never (cc)
 
 -- where the pass goes on, the walk meets a packet or another version
 walk-on : (bytes : List ℕ) (at : ℕ) → Turned bytes at (endOf bytes at)
@@ -95,7 +92,7 @@ no-other (first {p} {ps} two rest) = rw (eq-eqb (versionOf p) 2 two, no-other re
 
 from-start : (bytes : List ℕ) → firstPass bytes ≡ gave tt → passFrom (length bytes) bytes 0 ≡ gave tt
 unfolding firstPass
-from-start [] passes = let z : _≡_ {A = ℕ} 0 1 = cc in absurd (omega arith)
+from-start [] passes = never (cc)
 from-start (b ∷ bytes) passes = pass-start (b ∷ bytes) (omega arith) ∙ passes
 
 module _ (bytes : List ℕ) (passes : firstPass bytes ≡ gave tt) where

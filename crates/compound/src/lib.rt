@@ -36,20 +36,13 @@ pub struct Walked {
     pub next: usize,
 }
 
-// A byte where a larger number is wanted.
-fn wide(byte: u8) -> usize
-    ensures { λ r. ⌜ (r ≡ byte) × (r < 256) ⌝ }
-{
-    byte as usize
-}
-
 // The length field of the packet that starts at an offset: words of four bytes behind the first. Tests on the field itself
 // let the compiler load its two bytes as one.
 fn words_behind(bytes: &[u8], at: usize) -> usize
     requires { ⌜ at + 4 ≤ length (now bytes) ⌝ }
     ensures { λ r. ⌜ WordsBehind (now (bytes .entry)) at r ⌝ }
 {
-    256 * wide(bytes[at + 2]) + wide(bytes[at + 3])
+    octets::joined(bytes[at + 2], bytes[at + 3])
 }
 
 // The tests of the first pass at a packet whose header is there, once the first packet's version is known to be 2. The

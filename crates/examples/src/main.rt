@@ -48,7 +48,7 @@ fn say_step(bytes: &[u8], at: usize) {
     let found = walked.found;
     match found {
         Found::Over => say(b": over, next "),
-        Found::Packet => say(b": packet, next "),
+        Found::Packet(_) => say(b": packet, next "),
         Found::No(r) => {
             say(b": ");
             say_values(r);

@@ -1,6 +1,7 @@
 -- What the C interface's struct says of an outcome, and the values that each kind of answer has there.
-use Prim.Native.Nat.{ℕ, zero, suc, _-_}
+use Prim.Native.Nat.{ℕ, zero, suc}
 use mathlib.Core.List.{List, [], _∷_}
+use mathlib.Core.Path.{_≡_}
 use lib.IntN.{ℤ, pos}
 use Rattle.refusal.specs.Outcome.{Outcome, gave, refused}
 use Rattle.refusal.specs.Told.{valueBits}
@@ -23,6 +24,10 @@ says number values = record { number = number; values = valuesFrom 0 8 values }
 unfoldable pub saidOf : Outcome (List ℤ) → Said
 saidOf (gave values) = says 0 values
 saidOf (refused number values) = says number values
+
+-- what a call promises that changes no memory
+abbrev pub Answers : Outcome (List ℤ) → Said → Type 0
+Answers outcome s = s ≡ saidOf outcome
 
 -- an answer by its values
 abbrev pub answered : {A : Type 0} → (A → List ℤ) → Outcome A → Outcome (List ℤ)
@@ -47,12 +52,12 @@ unfoldable pub padding : Outcome Padding → Outcome (List ℤ)
 padding = answered paddingValues
 
 -- 0, next offset, start, length of a packet; 1, the end where the walk is over
-abbrev pub walkValues : ℕ → Met → ℕ → List ℤ
-walkValues at packet next = pos 0 ∷ pos next ∷ pos at ∷ pos (next - at) ∷ []
-walkValues at over next = pos 1 ∷ pos next ∷ []
+abbrev pub walkValues : Met → ℕ → List ℤ
+walkValues (packet p) next = pos 0 ∷ pos next ∷ pos (p .start) ∷ pos (p .length) ∷ []
+walkValues over next = pos 1 ∷ pos next ∷ []
 
-unfoldable pub walk : ℕ → Step → Outcome (List ℤ)
-walk at (step found next) = answered (λ met. walkValues at met next) found
+unfoldable pub walk : Step → Outcome (List ℤ)
+walk (step found next) = answered (λ met. walkValues met next) found
 
 -- base, status count, reference time, feedback count, entries listed
 unfoldable pub listedBlock : Outcome Listed → Outcome (List ℤ)

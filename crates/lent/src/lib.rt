@@ -4,7 +4,8 @@ ghost use mathlib.Core.Path.{_≡_};
 ghost use mathlib.Core.List.{[], _∷_};
 ghost use Prim.Native.Nat.{_-_, _≤_};
 ghost use lib.ListN.{length, take};
-ghost use Rattle.lent.specs.Bytes.{be16Bytes, zeroBytes, fitting};
+ghost use Rattle.octets.specs.Big.{beBytes};
+ghost use Rattle.lent.specs.Bytes.{zeroBytes, fitting};
 ghost use Rattle.lent.specs.Store.{Stored};
 
 // The longest packet: what a copy may hold in a local array on its way.
@@ -21,7 +22,7 @@ pub fn put(out: &mut [u8], at: usize, byte: u8)
 
 // A 16-bit number, the high byte first.
 pub fn put16(out: &mut [u8], at: usize, number: u16)
-    ensures { λ _. ⌜ Stored (now (out .entry)) at (be16Bytes number) (now (out .exit)) ⌝ }
+    ensures { λ _. ⌜ Stored (now (out .entry)) at (beBytes 2 number) (now (out .exit)) ⌝ }
 {
     if at < out.len() {
         put(out, at, (number / 256) as u8);

@@ -49,8 +49,8 @@ bytes-back : (es : List Entry) → entriesIn (bytesOf es) ≡ es
 unfolding entriesIn bytesOf
 bytes-back [] = refl
 bytes-back (entry n mask ∷ es) =
-    let number : n / 256 * 256 + n % 256 ≡ n = omega arith in
-    let bits : mask / 256 * 256 + mask % 256 ≡ mask = omega arith in
+    let number : 256 * (n / 256) + n % 256 ≡ n = omega arith in
+    let bits : 256 * (mask / 256) + mask % 256 ≡ mask = omega arith in
     rw (number, bits, bytes-back es)
 
 -- the bytes of an ascending list read as it

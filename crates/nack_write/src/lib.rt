@@ -3,7 +3,7 @@ use refusal::Number;
 use refusal::Refusal;
 ghost use mathlib.Core.Path.{_≡_};
 ghost use Prim.Native.Nat.{_+_, _/_, _<_, _≤_};
-ghost use lib.ListN.{length, getD};
+ghost use lib.ListN.{length};
 ghost use lib.Seq.{sets};
 ghost use Rattle.nack_store.specs.Bits.{bitOf, window, numbersOf};
 ghost use Rattle.nack.specs.Entries.{entriesOf, nackBytes, entryBytes};
@@ -18,28 +18,12 @@ const NUMBERS: usize = 65536;
 // The bytes of the most entries that a store needs: 3,856 of them.
 const MOST: usize = 15424;
 
-fn wide(byte: u8) -> usize
-    ensures { λ r. ⌜ (r ≡ byte) × (r < 256) ⌝ }
-{
-    byte as usize
-}
-
 // A number's bit.
 fn bit(store: &[u8], number: usize) -> usize
     requires { ⌜ number / 8 < length (now store) ⌝ }
     ensures { λ r. ⌜ r ≡ bitOf (now (store .entry)) number ⌝ }
 {
-    (wide(store[number / 8]) >> (number % 8)) % 2
-}
-
-// The byte at a place, 0 past the end.
-fn byte_at(store: &[u8], at: usize) -> usize
-    ensures { λ r. ⌜ (r ≡ getD (now (store .entry)) at 0) × (r < 256) ⌝ }
-{
-    if at < store.len() {
-        return wide(store[at]);
-    }
-    0
+    (octets::wide(store[number / 8]) >> (number % 8)) % 2
 }
 
 // The bits of sixteen numbers, the first worth 1.
@@ -47,7 +31,9 @@ fn window16(store: &[u8], first: usize) -> usize
     ensures { λ r. ⌜ (r ≡ window (bitOf (now (store .entry))) first 16) × (r < 65536) ⌝ }
 {
     let at = first / 8;
-    let bits = byte_at(store, at) + 256 * byte_at(store, at + 1) + 65536 * byte_at(store, at + 2);
+    let bits = octets::byte_at(store, at)
+        + 256 * octets::byte_at(store, at + 1)
+        + 65536 * octets::byte_at(store, at + 2);
     (bits >> (first % 8)) % 65536
 }
 

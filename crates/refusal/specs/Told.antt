@@ -1,17 +1,13 @@
 -- A refusal as plain 64-bit numbers.
-use Prim.Native.Nat.{ℕ, _-_}
+use Prim.Native.Nat.{ℕ}
 use mathlib.Core.Path.{_≡_}
 use mathlib.Core.List.{List}
-use lib.IntN.{ℤ, pos, negsuc}
+use lib.IntN.{ℤ, pos}
 use lib.ListN.{getD}
+use Rattle.octets.specs.Signed.{bits64}
 use Rattle.refusal.specs.Number.{numberOf, valuesOf}
 use Rattle.refusal.specs.declared.Refusal.{Refusal}
 use Rattle.refusal.specs.declared.Told.{Told}
-
--- an integer in 64 bits, two's complement
-abbrev pub bits64 : ℤ → ℕ
-bits64 (pos n) = n
-bits64 (negsuc n) = 18446744073709551615 - n
 
 -- the value at a place, 0 where there is none
 abbrev pub valueBits : List ℤ → ℕ → ℕ

@@ -8,6 +8,7 @@ use borrow.Author.Tests.{eqb-true, eqb-false, ltb-false, le-ltb, ne-eqb}
 use lib.Dec.{eqb, ltb}
 use lib.ListN.{length, getD, take, drop, length-append}
 use lib.Seq.{take-append-seam, getD-at}
+use Rattle.octets.proofs.Logic.{never}
 use Rattle.refusal.specs.Outcome.{gave, refuse}
 use Rattle.lent.specs.Bytes.{zeroBytes}
 use Rattle.lent.proofs.Laws.{length-zeroBytes}
@@ -37,11 +38,11 @@ written-fits count body padding room n gives =
     go : (b₁ b₂ b₃ b₄ b₅ : Bool) → ltb 31 count ≡ b₁ → eqb (padding % 4) 0 ≡ b₂ → eqb (body % 4) 0 ≡ b₃ → ltb 262144 size ≡ b₄ → ltb room size ≡ b₅
         → cond b₁ (refuse 8 (count ∷ [])) (cond (not b₂) (refuse 9 (padding ∷ [])) (cond (not b₃ || b₄) (refuse 11 (body ∷ []))
         (cond b₅ (refuse 15 (size ∷ room ∷ [])) (gave size)))) ≡ gave n → Fits count body padding room
-    go true b₂ b₃ b₄ b₅ e₁ e₂ e₃ e₄ e₅ p = let z : _≡_ {A = ℕ} 0 1 = cc in absurd (omega arith)
-    go false false b₃ b₄ b₅ e₁ e₂ e₃ e₄ e₅ p = let z : _≡_ {A = ℕ} 0 1 = cc in absurd (omega arith)
-    go false true false b₄ b₅ e₁ e₂ e₃ e₄ e₅ p = let z : _≡_ {A = ℕ} 0 1 = cc in absurd (omega arith)
-    go false true true true b₅ e₁ e₂ e₃ e₄ e₅ p = let z : _≡_ {A = ℕ} 0 1 = cc in absurd (omega arith)
-    go false true true false true e₁ e₂ e₃ e₄ e₅ p = let z : _≡_ {A = ℕ} 0 1 = cc in absurd (omega arith)
+    go true b₂ b₃ b₄ b₅ e₁ e₂ e₃ e₄ e₅ p = never (cc)
+    go false false b₃ b₄ b₅ e₁ e₂ e₃ e₄ e₅ p = never (cc)
+    go false true false b₄ b₅ e₁ e₂ e₃ e₄ e₅ p = never (cc)
+    go false true true true b₅ e₁ e₂ e₃ e₄ e₅ p = never (cc)
+    go false true true false true e₁ e₂ e₃ e₄ e₅ p = never (cc)
     go false true true false false e₁ e₂ e₃ e₄ e₅ p =
         record {
           count-fits = ltb-false 31 count e₁;

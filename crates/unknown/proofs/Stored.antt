@@ -6,7 +6,8 @@ use native.Mathlib.Omega.{arith}
 use borrow.Author.Tests.{eq-eqb, ne-eqb}
 use lib.ListN.{length}
 use lib.Seq.{sets}
-use Rattle.lent.specs.Bytes.{be16Bytes, zeroBytes}
+use Rattle.octets.specs.Big.{beBytes}
+use Rattle.lent.specs.Bytes.{zeroBytes}
 use Rattle.lent.specs.After.{over}
 use Rattle.lent.proofs.Laws.{sets-append, sets-over, length-zeroBytes}
 use Rattle.unknown.specs.Packet.{sizeOf, bodyBytes, padBytes, packetBytes}
@@ -18,8 +19,8 @@ pub behind : (old now then front more : List ℕ) (at from : ℕ) → now ≡ se
 behind old now then front more at from stands end stored = stored ∙ rw (stands, end) (sets-append old at front more)
 
 -- the header's bytes one after the other, and the body
-pub head-and-body : (old then body : List ℕ) (a b w field : ℕ) → w ≡ field → then ≡ sets (sets old 0 (a ∷ b ∷ be16Bytes w)) 4 body → then ≡ sets old 0 ((a ∷ b ∷ be16Bytes field) ++ body)
-head-and-body old then body a b w field same stored = rw same at (stored ∙ sets-append old 0 (a ∷ b ∷ be16Bytes w) body)
+pub head-and-body : (old then body : List ℕ) (a b w field : ℕ) → w ≡ field → then ≡ sets (sets old 0 (a ∷ b ∷ beBytes 2 w)) 4 body → then ≡ sets old 0 ((a ∷ b ∷ beBytes 2 field) ++ body)
+head-and-body old then body a b w field same stored = rw same at (stored ∙ sets-append old 0 (a ∷ b ∷ beBytes 2 w) body)
 
 pub no-padding : (old : List ℕ) (at padding : ℕ) → padding ≡ 0 → old ≡ sets old at (padBytes padding)
 unfolding padBytes

@@ -4,10 +4,9 @@ use refusal::Checked;
 use refusal::Number;
 use refusal::Refusal;
 ghost use mathlib.Core.Path.{_≡_};
-ghost use Prim.Native.Nat.{_≤_, _<_};
-ghost use lib.ListN.{getD};
+ghost use Prim.Native.Nat.{_≤_};
 ghost use Rattle.refusal.specs.Said.{saidChecked, saidNumber};
-ghost use Rattle.utils.specs.Header.{be16Of, versionOf, paddingBitOf, countOf, typeOf, lengthOf};
+ghost use Rattle.utils.specs.Header.{versionOf, paddingBitOf, countOf, typeOf, lengthOf};
 ghost use Rattle.utils.specs.Check.{field, paddingByte, ownLength, checkLength, ownPadding, checkPacket};
 ghost use Rattle.utils.specs.Said.{saidPadded};
 
@@ -23,60 +22,35 @@ pub enum Padded {
     No(Refusal),
 }
 
-// The byte at a place, 0 past the end.
-fn byte_at(s: &[u8], at: usize) -> u8
-    ensures { λ r. ⌜ r ≡ getD (now (s .entry)) at 0 ⌝ }
-{
-    if at < s.len() { s[at] } else { 0 }
-}
-
-// A byte where a larger number is wanted.
-fn wide(byte: u8) -> usize
-    ensures { λ r. ⌜ (r ≡ byte) × (r < 256) ⌝ }
-{
-    byte as usize
-}
-
-// The big-endian number in the two bytes at a place.
-fn be16_at(s: &[u8], at: usize) -> usize
-    ensures { λ r. ⌜ (r ≡ be16Of (now (s .entry)) at) × (r < 65536) ⌝ }
-{
-    if at < s.len() {
-        256 * wide(byte_at(s, at)) + wide(byte_at(s, at + 1))
-    } else {
-        0
-    }
-}
-
 // The fields without a test: bytes that are missing count as 0.
-fn version_of(packet: &[u8]) -> u8
+fn version_of(packet: &[u8]) -> usize
     ensures { λ r. ⌜ r ≡ versionOf (now (packet .entry)) ⌝ }
 {
-    byte_at(packet, 0) / 64
+    octets::byte_at(packet, 0) / 64
 }
 
-fn padding_bit_of(packet: &[u8]) -> u8
+fn padding_bit_of(packet: &[u8]) -> usize
     ensures { λ r. ⌜ r ≡ paddingBitOf (now (packet .entry)) ⌝ }
 {
-    byte_at(packet, 0) / 32 % 2
+    octets::byte_at(packet, 0) / 32 % 2
 }
 
-fn count_of(packet: &[u8]) -> u8
+fn count_of(packet: &[u8]) -> usize
     ensures { λ r. ⌜ r ≡ countOf (now (packet .entry)) ⌝ }
 {
-    byte_at(packet, 0) % 32
+    octets::byte_at(packet, 0) % 32
 }
 
-fn type_of(packet: &[u8]) -> u8
+fn type_of(packet: &[u8]) -> usize
     ensures { λ r. ⌜ r ≡ typeOf (now (packet .entry)) ⌝ }
 {
-    byte_at(packet, 1)
+    octets::byte_at(packet, 1)
 }
 
 fn length_of(packet: &[u8]) -> usize
     ensures { λ r. ⌜ (r ≡ lengthOf (now (packet .entry))) × (4 ≤ r) × (r ≤ 262144) ⌝ }
 {
-    4 * (be16_at(packet, 2) + 1)
+    4 * (octets::be16_at(packet, 2) + 1)
 }
 
 // A field's value, where the packet has its header.
@@ -95,25 +69,25 @@ fn field_of(packet: &[u8], value: usize) -> Number
 pub fn parse_version(packet: &[u8]) -> Number
     ensures { λ r. ⌜ saidNumber r ≡ field (now (packet .entry)) (versionOf (now (packet .entry))) ⌝ }
 {
-    field_of(packet, wide(version_of(packet)))
+    field_of(packet, version_of(packet))
 }
 
 pub fn parse_padding_bit(packet: &[u8]) -> Number
     ensures { λ r. ⌜ saidNumber r ≡ field (now (packet .entry)) (paddingBitOf (now (packet .entry))) ⌝ }
 {
-    field_of(packet, wide(padding_bit_of(packet)))
+    field_of(packet, padding_bit_of(packet))
 }
 
 pub fn parse_count(packet: &[u8]) -> Number
     ensures { λ r. ⌜ saidNumber r ≡ field (now (packet .entry)) (countOf (now (packet .entry))) ⌝ }
 {
-    field_of(packet, wide(count_of(packet)))
+    field_of(packet, count_of(packet))
 }
 
 pub fn parse_packet_type(packet: &[u8]) -> Number
     ensures { λ r. ⌜ saidNumber r ≡ field (now (packet .entry)) (typeOf (now (packet .entry))) ⌝ }
 {
-    field_of(packet, wide(type_of(packet)))
+    field_of(packet, type_of(packet))
 }
 
 pub fn parse_length(packet: &[u8]) -> Number
@@ -142,7 +116,7 @@ pub fn parse_padding(packet: &[u8]) -> Padded
             actual: packet.len(),
         });
     }
-    Padded::Byte(byte_at(packet, length - 1))
+    Padded::Byte(packet[length - 1])
 }
 
 // Whether a packet that has its header is as long as it says.
@@ -186,7 +160,7 @@ fn own_padding(packet: &[u8]) -> Checked
     if padding_bit_of(packet) == 0 {
         return Checked::Fine;
     }
-    if byte_at(packet, length_of(packet) - 1) == 0 {
+    if octets::byte_at(packet, length_of(packet) - 1) == 0 {
         return Checked::No(Refusal::Padding);
     }
     Checked::Fine
@@ -208,11 +182,11 @@ pub fn check_packet(packet: &[u8], least: usize, packet_type: u8) -> Checked
             actual: packet.len(),
         });
     }
-    let version = version_of(packet);
+    let version = packet[0] / 64;
     if version != 2 {
         return Checked::No(Refusal::Version(version));
     }
-    let actual = type_of(packet);
+    let actual = packet[1];
     if actual != packet_type {
         return Checked::No(Refusal::PacketType {
             actual,

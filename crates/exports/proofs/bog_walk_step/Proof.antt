@@ -1,10 +1,8 @@
--- By what the step found; a packet ends where it starts or behind.
+-- By what the step found.
 use mathlib.Core.Path.{_≡_, sym, ap, _∙_}
-use native.Mathlib.Omega.{arith}
 use denote.Ref.{now}
 use Rattle.compound.specs.Walk.{step, walkStep}
 use Rattle.compound.specs.Said.{saidFound}
-use Rattle.compound.proofs.Laws.{walk-packet}
 use Rattle.compound.specs.declared.Found.{Found}
 use Rattle.exports.specs.Says.{saidOf, walk}
 use borrow.Author.Needs.{needs}
@@ -21,9 +19,6 @@ walk-step-requires c κs = search needs
 
 enum-told : tie.Need-enum-told
 enum-told c = search needs
-
-sub-four : tie.Need-sub-four
-sub-four c = omega (arith, walk-packet _ _ _ (as-found (c .before .before) (c .enum-told .given .1)))
 
 four-requires : tie.Need-four-requires
 four-requires c κs = search needs
@@ -58,7 +53,6 @@ bog-walk-step-spec =
     (tie.spec
     walk-step-requires
     enum-told
-    sub-four
     four-requires
     enum-told-2
     two-requires

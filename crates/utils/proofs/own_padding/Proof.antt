@@ -23,11 +23,11 @@ byte-at-requires c κs = search needs
 
 returns-2 : tie.Need-returns-2
 unfolding ownPadding
-returns-2 c = simp (← (c .before .before .before .before .padding-bit-of .ensures), ne-eqb _ _ (c .before .before .before .if1 .left), ← (c .before .before .length-of .ensures .0), ← (c .before .byte-at .ensures), eq-eqb _ _ (c .if2 .taken))
+returns-2 c = simp (← (c .before .before .before .before .padding-bit-of .ensures), ne-eqb _ _ (c .before .before .before .if1 .left), ← (c .before .before .length-of .ensures .0), ← (c .before .byte-at .ensures .0), eq-eqb _ _ (c .if2 .taken))
 
 returns-3 : tie.Need-returns-3
 unfolding ownPadding
-returns-3 c = simp (← (c .before .before .before .before .padding-bit-of .ensures), ne-eqb _ _ (c .before .before .before .if1 .left), ← (c .before .before .length-of .ensures .0), ← (c .before .byte-at .ensures), ne-eqb _ _ (c .if2 .left))
+returns-3 c = simp (← (c .before .before .before .before .padding-bit-of .ensures), ne-eqb _ _ (c .before .before .before .if1 .left), ← (c .before .before .length-of .ensures .0), ← (c .before .byte-at .ensures .0), ne-eqb _ _ (c .if2 .left))
 
 pub own-padding-spec : {M : Type 1} → statement M
 own-padding-spec =

@@ -4,14 +4,11 @@ use native.Mathlib.Omega.{arith}
 use lib.ListN.{length, List·getD-eq-default}
 use denote.Ref.{now}
 use borrow.Author.Needs.{needs}
-use Rattle.utils.proofs.be16_at.Statement.{statement}
-use Rattle.utils.proofs.be16_at.Tie as tie
+use Rattle.octets.proofs.be16_at.Statement.{statement}
+use Rattle.octets.proofs.be16_at.Tie as tie
 
 byte-at-requires : tie.Need-byte-at-requires
 byte-at-requires c κs = search needs
-
-wide-requires : tie.Need-wide-requires
-wide-requires c κs = search needs
 
 mul-result : tie.Need-mul-result
 mul-result c = search needs
@@ -22,9 +19,6 @@ add-byte-at c = search needs
 byte-at-requires-2 : tie.Need-byte-at-requires-2
 byte-at-requires-2 c κs = search needs
 
-wide-requires-2 : tie.Need-wide-requires-2
-wide-requires-2 c κs = search needs
-
 add-result : tie.Need-add-result
 add-result c = search needs
 
@@ -33,7 +27,7 @@ returns c = search needs
 
 returns-2 : tie.Need-returns-2
 returns-2 c =
-    let s = now (c .before .before .args .s) in
+    let s = now (c .before .before .args .bytes) in
     let at = c .before .before .args .at in
     let past : length s ≤ at + 1 = omega arith in
     omega (arith, List·getD-eq-default s 0 (c .if1 .left), List·getD-eq-default s 0 past)
@@ -43,11 +37,9 @@ be16-at-spec =
     tie.close
     (tie.spec
     byte-at-requires
-    wide-requires
     mul-result
     add-byte-at
     byte-at-requires-2
-    wide-requires-2
     add-result
     returns
     returns-2)

@@ -1,10 +1,11 @@
--- Past the end there is nothing, which counts as 0.
+-- Past the end the default stands.
 use mathlib.Core.Path.{sym}
-use denote.Ref.{now}
+use native.Mathlib.Omega.{arith}
 use lib.ListN.{List·getD-eq-default}
+use denote.Ref.{now}
 use borrow.Author.Needs.{needs}
-use Rattle.nack_write.proofs.byte_at.Statement.{statement}
-use Rattle.nack_write.proofs.byte_at.Tie as tie
+use Rattle.octets.proofs.byte_at.Statement.{statement}
+use Rattle.octets.proofs.byte_at.Tie as tie
 
 shared-slice-read-wide : tie.Need-shared-slice-read-wide
 shared-slice-read-wide c = search needs
@@ -16,7 +17,7 @@ returns : tie.Need-returns
 returns c = search needs
 
 returns-2 : tie.Need-returns-2
-returns-2 c = (sym (List·getD-eq-default (now (c .before .before .args .store)) 0 (c .if1 .left)), search needs)
+returns-2 c = (sym (List·getD-eq-default (now (c .before .before .args .bytes)) 0 (c .if1 .left)), omega arith)
 
 pub byte-at-spec : {M : Type 1} → statement M
 byte-at-spec = tie.close (tie.spec shared-slice-read-wide wide-requires returns returns-2)
