@@ -1,4 +1,3 @@
 pub mod Entries
 pub mod Promise
 pub mod Unique
-pub mod Examples
