@@ -78,6 +78,6 @@ added-back ns below =
     let size : length (addedAll emptyStore ns) ≡ storeSize = length-added emptyStore ns ∙ length-empty in
     subst (λ (l : List ℕ). Sorted ns l) (sym (store-back (addedAll emptyStore ns) size)) (added-sorted ns below)
 
--- an ascending list is its own sorted list, so that specs/Examples speaks of stores too
+-- an ascending list is its own sorted list
 pub rising-bytes : (ns : List ℕ) → Rising 65536 0 ns → nackBytes (addedAll emptyStore ns) ≡ nackOf ns
 rising-bytes ns rises = added-bytes ns ns (rising-below ns rises) (rising-sorted ns rises)

@@ -1,3 +1,2 @@
 pub mod Entries
 pub mod Promise
-pub mod Examples

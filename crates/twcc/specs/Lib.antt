@@ -5,4 +5,3 @@ pub mod Block
 pub mod Entries
 pub mod Reading
 pub mod Written
-pub mod Examples

@@ -5,4 +5,3 @@ pub mod Plan
 pub mod Block
 pub mod PlanLaws
 pub mod BlockLaws
-pub mod WritingExamples
