@@ -2,4 +2,3 @@ pub mod Masks
 pub mod Opens
 pub mod Back
 pub mod Rooms
-pub mod Unique

@@ -8,10 +8,9 @@ use lib.ListN.{length}
 use lib.Seq.{sets}
 use Rattle.octets.specs.Big.{beBytes}
 use Rattle.lent.specs.Bytes.{zeroBytes}
-use Rattle.lent.specs.After.{over}
-use Rattle.lent.proofs.Laws.{sets-append, sets-over, length-zeroBytes}
-use Rattle.unknown.specs.Packet.{sizeOf, bodyBytes, padBytes, packetBytes}
-use Rattle.unknown.proofs.Laws.{length-bodyBytes, length-packetBytes}
+use Rattle.lent.proofs.Laws.{sets-append, length-zeroBytes}
+use Rattle.unknown.specs.Packet.{bodyBytes, padBytes, packetBytes}
+use Rattle.unknown.proofs.Laws.{length-bodyBytes}
 
 -- bytes stored right behind others
 pub behind : (old now then front more : List ℕ) (at from : ℕ) → now ≡ sets old at front → from ≡ at + length front → then ≡ sets now from more
@@ -33,9 +32,8 @@ some-padding old zeroed then at padding some zeros count =
     simp (ne-eqb padding 0 some)
     (behind old zeroed then (zeroBytes (padding - 1)) (padding ∷ []) at (at + (padding - 1)) zeros (omega (arith, length-zeroBytes (padding - 1))) count)
 
--- the whole packet over the front of the buffer
+-- the whole packet
 pub whole : (old now then body : List ℕ) (count type padding : ℕ) → now ≡ sets old 0 (bodyBytes count type body padding) → then ≡ sets now (4 + length body) (padBytes padding)
-    → sizeOf (length body) padding ≤ length old → then ≡ over (packetBytes count type body padding) old
-whole old now then body count type padding first second fits =
+    → then ≡ sets old 0 (packetBytes count type body padding)
+whole old now then body count type padding first second =
     behind old now then (bodyBytes count type body padding) (padBytes padding) 0 (4 + length body) first (omega (arith, length-bodyBytes count type body padding)) second
-    ∙ sets-over (packetBytes count type body padding) old (omega (arith, length-packetBytes count type body padding))
