@@ -8,8 +8,8 @@ ghost use Rattle.octets.specs.Big.{beBytes};
 ghost use Rattle.lent.specs.Bytes.{zeroBytes, fitting};
 ghost use Rattle.lent.specs.Store.{Stored};
 
-// The longest packet: what a copy may hold in a local array on its way.
-const LONGEST: usize = 262144;
+// What a copy may hold in a local array on its way: as much as the longest packet.
+const AT_ONCE: usize = 262144;
 
 // One byte.
 pub fn put(out: &mut [u8], at: usize, byte: u8)
@@ -73,7 +73,7 @@ fn hand_through(from: &[u8], n: usize, out: &mut [u8], at: usize)
     requires { ⌜ (n ≤ 262144) × (n ≤ length (now from)) × (n ≤ length (now out) - at) ⌝ }
     ensures { λ _. ⌜ Stored (now (out .entry)) at (take n (now (from .entry))) (now (out .exit)) ⌝ }
 {
-    let mut between = [0u8; LONGEST];
+    let mut between = [0u8; AT_ONCE];
     hand_out(from, n, &mut between, 0);
     hand_out(&between, n, out, at);
 }
@@ -83,7 +83,7 @@ pub fn copy(out: &mut [u8], at: usize, from: &[u8])
     ensures { λ _. ⌜ Stored (now (out .entry)) at (now (from .entry)) (now (out .exit)) ⌝ }
 {
     let n = fit(out.len(), at, from.len());
-    if n <= LONGEST {
+    if n <= AT_ONCE {
         hand_through(from, n, out, at);
         return;
     }

@@ -54,13 +54,13 @@ entriesOf (n ∷ ns) = grow n 0 ns
 abbrev pub entryBytes : ℕ → ℕ → List ℕ
 entryBytes n mask = beBytes 2 n ++ beBytes 2 mask
 
-unfoldable pub bytesOf : List Entry → List ℕ
-bytesOf [] = []
-bytesOf (entry n mask ∷ es) = entryBytes n mask ++ bytesOf es
+unfoldable pub allBytes : List Entry → List ℕ
+allBytes [] = []
+allBytes (entry n mask ∷ es) = entryBytes n mask ++ allBytes es
 
 -- the bytes of an ascending list of numbers; an empty one has none, where the RFC wants an entry
 abbrev pub nackOf : List ℕ → List ℕ
-nackOf ns = bytesOf (entriesOf ns)
+nackOf ns = allBytes (entriesOf ns)
 
 -- the bytes of a store's numbers
 unfoldable pub nackBytes : List ℕ → List ℕ

@@ -8,11 +8,11 @@ ghost use mathlib.Core.Path.{_≡_};
 ghost use Prim.Native.Nat.{_<_};
 ghost use lib.ListN.{length};
 ghost use Rattle.refusal.specs.Said.{saidNumber};
-ghost use Rattle.nack_store.specs.Bits.{withBit, changedBit, added, removed, emptyStore, numbersOf};
+ghost use Rattle.nack_store.specs.Bits.{storeSize, withBit, changedBit, added, removed, emptyStore, numbersOf};
 ghost use Rattle.nack_store.specs.Promise.{Changed, hasNumber, countNumbers, saidMembership};
 
 // The size of a store: a bit for each of the 65,536 numbers.
-const STORE: usize = 8192;
+pub const STORE: usize = 8192;
 
 // The answer to whether a number is in the set.
 pub enum Membership {
@@ -85,7 +85,7 @@ pub fn has(store: &[u8], number: Seq) -> Membership
 
 // How many bits are set.
 fn count_members(store: &[u8]) -> usize
-    requires { ⌜ length (now store) ≡ 8192 ⌝ }
+    requires { ⌜ length (now store) ≡ storeSize ⌝ }
     ensures { λ r. ⌜ r ≡ length (numbersOf (now (store .entry))) ⌝ }
 {
     let mut found: usize = 0;

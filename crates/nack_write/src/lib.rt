@@ -5,12 +5,9 @@ ghost use mathlib.Core.Path.{_≡_};
 ghost use Prim.Native.Nat.{_+_, _/_, _<_, _≤_};
 ghost use lib.ListN.{length};
 ghost use lib.Seq.{sets};
-ghost use Rattle.nack_store.specs.Bits.{bitOf, window, numbersOf};
+ghost use Rattle.nack_store.specs.Bits.{storeSize, bitOf, window, numbersOf};
 ghost use Rattle.nack.specs.Entries.{entriesOf, nackBytes, entryBytes};
 ghost use Rattle.nack_write.specs.Promise.{Next, Wrote};
-
-// The size of a store.
-const STORE: usize = 8192;
 
 // How many numbers it has bits for.
 const NUMBERS: usize = 65536;
@@ -39,7 +36,7 @@ fn window16(store: &[u8], first: usize) -> usize
 
 // The first number from a number on that the store has.
 fn next_from(store: &[u8], first: usize) -> usize
-    requires { ⌜ length (now store) ≡ 8192 ⌝ }
+    requires { ⌜ length (now store) ≡ storeSize ⌝ }
     ensures { λ r. ⌜ Next (now (store .entry)) first r ⌝ }
 {
     let mut number = first;
@@ -54,7 +51,7 @@ fn next_from(store: &[u8], first: usize) -> usize
 
 // How many entries the store's numbers need.
 fn count_entries(store: &[u8]) -> usize
-    requires { ⌜ length (now store) ≡ 8192 ⌝ }
+    requires { ⌜ length (now store) ≡ storeSize ⌝ }
     ensures { λ r. ⌜ (r ≡ length (entriesOf (numbersOf (now (store .entry))))) × (r ≤ 3856) ⌝ }
 {
     let mut entries: usize = 0;
@@ -79,7 +76,7 @@ fn put_entry(out: &mut [u8], at: usize, number: usize, mask: usize)
 
 // The entries of the store's numbers, which fit; how many bytes that is.
 fn put_entries(store: &[u8], out: &mut [u8]) -> usize
-    requires { ⌜ (length (now store) ≡ 8192) × (length (nackBytes (now store)) ≤ length (now out)) ⌝ }
+    requires { ⌜ (length (now store) ≡ storeSize) × (length (nackBytes (now store)) ≤ length (now out)) ⌝ }
     ensures { λ r. ⌜ (r ≡ length (nackBytes (now (store .entry)))) × (now (out .exit) ≡ sets (now (out .entry)) 0 (nackBytes (now (store .entry)))) ⌝ }
 {
     let mut at: usize = 0;
@@ -98,7 +95,7 @@ pub fn write(store: &[u8], out: &mut [u8]) -> Number
     ensures { λ r. ⌜ Wrote (now (store .entry)) (now (out .entry)) r (now (out .exit)) ⌝ }
 {
     let size = store.len();
-    if size != STORE {
+    if size != nack_store::STORE {
         return Number::No(Refusal::Store(size));
     }
     let present = out.len();

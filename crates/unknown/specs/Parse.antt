@@ -5,11 +5,11 @@ use mathlib.Core.Bool.{cond, not}
 use lib.ListN.{length}
 use lib.Dec.{eqb, ltb}
 use Rattle.refusal.specs.Outcome.{Outcome, refuse}
-use Rattle.utils.specs.Header.{versionOf}
+use Rattle.utils.specs.Header.{shortest, versionOf}
 use Rattle.utils.specs.Check.{ownLength}
 
 unfoldable pub unknown : List ℕ → Outcome Unit
 unknown packet =
-    cond (ltb (length packet) 4) (refuse 1 (4 ∷ length packet ∷ []))
+    cond (ltb (length packet) shortest) (refuse 1 (shortest ∷ length packet ∷ []))
     (cond (not (eqb (versionOf packet) 2)) (refuse 2 (versionOf packet ∷ []))
     (ownLength packet))

@@ -8,6 +8,7 @@ use Rattle.refusal.specs.Outcome.{Outcome, gave, refuse}
 use Rattle.refusal.specs.Said.{saidNumber}
 use Rattle.refusal.specs.declared.Number.{Number}
 use Rattle.lent.specs.Fills.{Fills}
+use Rattle.utils.specs.Header.{longest}
 use Rattle.unknown.specs.Packet.{sizeOf, packetBytes}
 
 -- the size of the packet, where it is written
@@ -15,7 +16,7 @@ unfoldable pub written : ℕ → ℕ → ℕ → ℕ → Outcome ℕ
 written count body padding room =
     cond (ltb 31 count) (refuse 8 (count ∷ []))
     (cond (not (eqb (padding % 4) 0)) (refuse 9 (padding ∷ []))
-    (cond (not (eqb (body % 4) 0) || ltb 262144 (sizeOf body padding)) (refuse 11 (body ∷ []))
+    (cond (not (eqb (body % 4) 0) || ltb longest (sizeOf body padding)) (refuse 11 (body ∷ []))
     (cond (ltb room (sizeOf body padding)) (refuse 15 (sizeOf body padding ∷ room ∷ []))
     (gave (sizeOf body padding)))))
 

@@ -8,21 +8,19 @@ ghost use Prim.Native.Nat.{_+_, _≤_};
 ghost use lib.ListN.{length};
 ghost use lib.Seq.{sets};
 ghost use Rattle.refusal.specs.Said.{saidChecked};
+ghost use Rattle.utils.specs.Header.{longest};
 ghost use Rattle.unknown.specs.Parse.{unknown};
 ghost use Rattle.unknown.specs.Packet.{sizeOf, firstByte, bodyBytes, padBytes};
 ghost use Rattle.unknown.specs.Write.{Wrote};
-
-// The longest packet that the length field can say.
-const LONGEST: usize = 262144;
 
 // `Unknown::parse`: one packet of any type, neither shorter nor longer than it says.
 pub fn parse(packet: &[u8]) -> Checked
     ensures { λ r. ⌜ saidChecked r ≡ unknown (now (packet .entry)) ⌝ }
 {
     let present = packet.len();
-    if present < 4 {
+    if present < utils::SHORTEST {
         return Checked::No(Refusal::TooShort {
-            expected: 4,
+            expected: utils::SHORTEST,
             actual: present,
         });
     }
@@ -47,7 +45,7 @@ fn first_byte(count: u8, padding: u8) -> u8
 
 // The header and the body.
 fn put_body(count: u8, packet_type: u8, body: &[u8], padding: u8, out: &mut [u8])
-    requires { ⌜ (count ≤ 31) × (sizeOf (length (now body)) padding ≤ 262144) × (sizeOf (length (now body)) padding ≤ length (now out)) ⌝ }
+    requires { ⌜ (count ≤ 31) × (sizeOf (length (now body)) padding ≤ longest) × (sizeOf (length (now body)) padding ≤ length (now out)) ⌝ }
     ensures { λ _. ⌜ now (out .exit) ≡ sets (now (out .entry)) 0 (bodyBytes count «packet_type» (now (body .entry)) padding) ⌝ }
 {
     let behind = (body.len() + padding as usize) / 4;
@@ -86,7 +84,7 @@ pub fn write(count: u8, packet_type: u8, body: &[u8], padding: u8, out: &mut [u8
         return Number::No(Refusal::Body(size));
     }
     let needed = 4 + size + padding as usize;
-    if LONGEST < needed {
+    if utils::LONGEST < needed {
         return Number::No(Refusal::Body(size));
     }
     let present = out.len();

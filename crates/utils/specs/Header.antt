@@ -10,6 +10,13 @@ use mathlib.Core.List.{List}
 use lib.ListN.{getD}
 use Rattle.octets.specs.Big.{be}
 
+-- the sizes of a packet: its header alone, and the most that the length field can say
+abbrev pub shortest : ℕ
+shortest = 4
+
+abbrev pub longest : ℕ
+longest = 262144
+
 -- version (V): 2 bits
 abbrev pub versionOf : List ℕ → ℕ
 versionOf packet = getD packet 0 0 / 64

@@ -6,14 +6,14 @@ use refusal::Refusal;
 ghost use mathlib.Core.Path.{_≡_};
 ghost use Prim.Native.Nat.{_≤_};
 ghost use Rattle.refusal.specs.Said.{saidChecked, saidNumber};
-ghost use Rattle.utils.specs.Header.{versionOf, paddingBitOf, countOf, typeOf, lengthOf};
+ghost use Rattle.utils.specs.Header.{shortest, longest, versionOf, paddingBitOf, countOf, typeOf, lengthOf};
 ghost use Rattle.utils.specs.Check.{field, paddingByte, ownLength, checkLength, ownPadding, checkPacket};
 ghost use Rattle.utils.specs.Said.{saidPadded};
 
 // A packet is at least its header, and at most what its length field can say.
-const SHORTEST: usize = 4;
+pub const SHORTEST: usize = 4;
 
-const LONGEST: usize = 262144;
+pub const LONGEST: usize = 262144;
 
 // The padding byte, where the padding bit is set.
 pub enum Padded {
@@ -48,7 +48,7 @@ fn type_of(packet: &[u8]) -> usize
 }
 
 fn length_of(packet: &[u8]) -> usize
-    ensures { λ r. ⌜ (r ≡ lengthOf (now (packet .entry))) × (4 ≤ r) × (r ≤ 262144) ⌝ }
+    ensures { λ r. ⌜ (r ≡ lengthOf (now (packet .entry))) × (shortest ≤ r) × (r ≤ longest) ⌝ }
 {
     4 * (octets::be16_at(packet, 2) + 1)
 }
