@@ -56,7 +56,7 @@ fn turn_at(bytes: &[u8], word: usize) -> Turn
     let behind = words_behind(bytes, at);
     let next = word + 1 + behind;
     if end / 4 - word <= behind {
-        return Turn::No(Refusal::TooShort {
+        return Turn::No(Refusal::Truncated {
             expected: 4 * next,
             actual: end,
         });
@@ -65,7 +65,7 @@ fn turn_at(bytes: &[u8], word: usize) -> Turn
         return Turn::Next(next);
     }
     if 4 * next < end {
-        return Turn::No(Refusal::Padding);
+        return Turn::No(Refusal::InvalidPadding);
     }
     Turn::Next(next)
 }
@@ -76,14 +76,14 @@ pub fn parse(bytes: &[u8]) -> Checked
 {
     let end = bytes.len();
     if end < 4 {
-        return Checked::No(Refusal::TooShort {
+        return Checked::No(Refusal::Truncated {
             expected: 4,
             actual: end,
         });
     }
     let version = bytes[0] / 64;
     if version != 2 {
-        return Checked::No(Refusal::Version(version));
+        return Checked::No(Refusal::UnsupportedVersion(version));
     }
     let mut word = 0;
     while word < end / 4 {
@@ -97,7 +97,7 @@ pub fn parse(bytes: &[u8]) -> Checked
         }
     }
     if 4 * word < end {
-        return Checked::No(Refusal::TooShort {
+        return Checked::No(Refusal::Truncated {
             expected: 4 * word + 4,
             actual: end,
         });
@@ -118,7 +118,7 @@ pub fn walk_step(bytes: &[u8], at: usize) -> Walked
     }
     if end - at < 4 {
         return Walked {
-            found: Found::No(Refusal::TooShort {
+            found: Found::No(Refusal::Truncated {
                 expected: at + 4,
                 actual: end,
             }),
@@ -129,7 +129,7 @@ pub fn walk_step(bytes: &[u8], at: usize) -> Walked
     let next = at + 4 + 4 * behind;
     if (end - at) / 4 <= behind {
         return Walked {
-            found: Found::No(Refusal::TooShort {
+            found: Found::No(Refusal::Truncated {
                 expected: next,
                 actual: end,
             }),
@@ -139,7 +139,7 @@ pub fn walk_step(bytes: &[u8], at: usize) -> Walked
     let version = bytes[at] / 64;
     if version != 2 {
         return Walked {
-            found: Found::No(Refusal::Version(version)),
+            found: Found::No(Refusal::UnsupportedVersion(version)),
             next: end,
         };
     }

@@ -22,7 +22,7 @@ filled outcome front old count new is fits done =
 
 -- it does not
 pub lacking : (outcome : Outcome ℕ) (front old : List ℕ) (needed : ℕ) → outcome ≡ intoRoom (length front) (length old) → length old < length front
-    → needed ≡ capped (length front) → Fills saidNumber outcome 0 front old (number.No (refusal.Room needed (length old))) old
+    → needed ≡ capped (length front) → Fills saidNumber outcome 0 front old (number.No (refusal.OutputTooSmall needed (length old))) old
 unfolding intoRoom
 lacking outcome front old needed is short figure =
     let room = lt-ltb (length old) (length front) short in

@@ -107,7 +107,7 @@ pub fn read(bytes: &[u8], list: &mut [u16]) -> Number
     }
     let listed = count_listed(bytes);
     if room < listed {
-        return Number::No(Refusal::Room {
+        return Number::No(Refusal::OutputTooSmall {
             needed: listed,
             present: room,
         });

@@ -96,7 +96,7 @@ pub fn write(store: &[u8], out: &mut [u8]) -> Number
 {
     let size = store.len();
     if size != nack_store::STORE {
-        return Number::No(Refusal::Store(size));
+        return Number::No(Refusal::StoreLength(size));
     }
     let present = out.len();
     if MOST <= present {
@@ -104,7 +104,7 @@ pub fn write(store: &[u8], out: &mut [u8]) -> Number
     }
     let needed = 4 * count_entries(store);
     if present < needed {
-        return Number::No(Refusal::Room { needed, present });
+        return Number::No(Refusal::OutputTooSmall { needed, present });
     }
     Number::Is(put_entries(store, out))
 }

@@ -15,7 +15,7 @@ use Rattle.refusal.specs.declared.Number.{Number}
 use Rattle.refusal.specs.declared.Number.the-variants as number
 use Rattle.refusal.specs.declared.Refusal.{Refusal}
 use Rattle.refusal.specs.declared.Told.{Told}
-use Rattle.refusal.specs.declared.Refusal.the-variants.{TooShort, Version, PacketType, TooLong, Padding, Count, UnevenPadding, Time, Body, Word, ListLength, Limit, Room, Store, Least}
+use Rattle.refusal.specs.declared.Refusal.the-variants.{Truncated, UnsupportedVersion, PacketTypeMismatch, TooLarge, InvalidPadding, CountOutOfRange, UnevenPadding, ReferenceTimeTooLarge, BodyLength, StatusOutOfRange, ListTooLong, LimitTooSmall, OutputTooSmall, StoreLength, LeastLength}
 
 -- the value at a place
 abbrev valueAt : List ℤ → ℕ → ℕ
@@ -24,38 +24,38 @@ valueAt values place = natAbs (getD values place (pos 0))
 -- the refusal of a number and its values
 abbrev refusalOf : ℕ → List ℤ → Refusal
 refusalOf number values =
-    cond (eqb number 1) (TooShort (valueAt values 0) (valueAt values 1))
-    (cond (eqb number 2) (Version (valueAt values 0))
-    (cond (eqb number 3) (PacketType (valueAt values 0) (valueAt values 1))
-    (cond (eqb number 4) (TooLong (valueAt values 0) (valueAt values 1))
-    (cond (eqb number 5) Padding
-    (cond (eqb number 8) (Count (valueAt values 0))
+    cond (eqb number 1) (Truncated (valueAt values 0) (valueAt values 1))
+    (cond (eqb number 2) (UnsupportedVersion (valueAt values 0))
+    (cond (eqb number 3) (PacketTypeMismatch (valueAt values 0) (valueAt values 1))
+    (cond (eqb number 4) (TooLarge (valueAt values 0) (valueAt values 1))
+    (cond (eqb number 5) InvalidPadding
+    (cond (eqb number 8) (CountOutOfRange (valueAt values 0))
     (cond (eqb number 9) (UnevenPadding (valueAt values 0))
-    (cond (eqb number 10) (Time (valueAt values 0))
-    (cond (eqb number 11) (Body (valueAt values 0))
-    (cond (eqb number 12) (Word (valueAt values 0))
-    (cond (eqb number 13) (ListLength (valueAt values 0))
-    (cond (eqb number 14) (Limit (valueAt values 0))
-    (cond (eqb number 15) (Room (valueAt values 0) (valueAt values 1))
-    (cond (eqb number 16) (Store (valueAt values 0))
-    (Least (valueAt values 0)))))))))))))))
+    (cond (eqb number 10) (ReferenceTimeTooLarge (valueAt values 0))
+    (cond (eqb number 11) (BodyLength (valueAt values 0))
+    (cond (eqb number 12) (StatusOutOfRange (valueAt values 0))
+    (cond (eqb number 13) (ListTooLong (valueAt values 0))
+    (cond (eqb number 14) (LimitTooSmall (valueAt values 0))
+    (cond (eqb number 15) (OutputTooSmall (valueAt values 0) (valueAt values 1))
+    (cond (eqb number 16) (StoreLength (valueAt values 0))
+    (LeastLength (valueAt values 0)))))))))))))))
 
 refusal-back : (r : Refusal) → refusalOf (numberOf r) (valuesOf r) ≡ r
-refusal-back (TooShort a b) = refl
-refusal-back (Version a) = refl
-refusal-back (PacketType a b) = refl
-refusal-back (TooLong a b) = refl
-refusal-back Padding = refl
-refusal-back (Count a) = refl
+refusal-back (Truncated a b) = refl
+refusal-back (UnsupportedVersion a) = refl
+refusal-back (PacketTypeMismatch a b) = refl
+refusal-back (TooLarge a b) = refl
+refusal-back InvalidPadding = refl
+refusal-back (CountOutOfRange a) = refl
 refusal-back (UnevenPadding a) = refl
-refusal-back (Time a) = refl
-refusal-back (Body a) = refl
-refusal-back (Word a) = refl
-refusal-back (ListLength a) = refl
-refusal-back (Limit a) = refl
-refusal-back (Room a b) = refl
-refusal-back (Store a) = refl
-refusal-back (Least a) = refl
+refusal-back (ReferenceTimeTooLarge a) = refl
+refusal-back (BodyLength a) = refl
+refusal-back (StatusOutOfRange a) = refl
+refusal-back (ListTooLong a) = refl
+refusal-back (LimitTooSmall a) = refl
+refusal-back (OutputTooSmall a b) = refl
+refusal-back (StoreLength a) = refl
+refusal-back (LeastLength a) = refl
 
 pub refusal-unique : (a b : Refusal) → numberOf a ≡ numberOf b → valuesOf a ≡ valuesOf b → a ≡ b
 refusal-unique a b numbers values = sym (refusal-back a) ∙ (cc) ∙ refusal-back b

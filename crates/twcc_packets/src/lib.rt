@@ -41,7 +41,7 @@ impl Packets {
         ensures { λ r. ⌜ saidOpened r ≡ opened (now (block .entry)) ⌝ }
     {
         if block.len() < 8 {
-            return Opened::No(Refusal::TooShort {
+            return Opened::No(Refusal::Truncated {
                 expected: 8,
                 actual: block.len(),
             });

@@ -8,7 +8,7 @@ use lib.IntN.{ℤ}
 use lib.ListN.{length, drop}
 use Rattle.refusal.specs.Outcome.{Outcome, gave}
 use Rattle.refusal.specs.Number.{no}
-use Rattle.refusal.specs.declared.Refusal.the-variants.{TooShort, Room}
+use Rattle.refusal.specs.declared.Refusal.the-variants.{Truncated, OutputTooSmall}
 use Rattle.twcc.specs.Block.{listed}
 use Rattle.twcc_walk.specs.Cursors.{headerOf}
 use Rattle.twcc_walk.specs.declared.Header.{Header}
@@ -28,18 +28,18 @@ module _ (words old : List ℤ) where
   front-set fits = simp (le-ltb _ _ fits)
 
 module _ (block : List ℕ) (old : List ℤ) where
-  pub reads-short : length block < 8 → Reads block old (No (TooShort 8 (length block))) old
+  pub reads-short : length block < 8 → Reads block old (No (Truncated 8 (length block))) old
   unfolding readAnswer
   reads-short short =
-      let is : no (TooShort 8 (length block)) ≡ readAnswer block (length old) = simp (lt-ltb _ _ short) in
+      let is : no (Truncated 8 (length block)) ≡ readAnswer block (length old) = simp (lt-ltb _ _ short) in
       record { answer = is; list = ap (λ (o : Outcome Listed). after o (listed block) old) is }
 
   module _ (new : List ℤ) (count : ℕ) (long : 8 ≤ length block) (same : length new ≡ length old) (fills : Fills block old count new) where
-    pub reads-full : length new < count → Reads block old (No (Room count (length new))) new
+    pub reads-full : length new < count → Reads block old (No (OutputTooSmall count (length new))) new
     unfolding readAnswer
     reads-full few =
         let small : length old < length (listed block) = omega (arith, fills .count) in
-        let is : no (Room count (length new)) ≡ readAnswer block (length old) =
+        let is : no (OutputTooSmall count (length new)) ≡ readAnswer block (length old) =
         rw (fills .count, same) (simp (le-ltb _ _ long, lt-ltb _ _ small)) in
         record {
           answer = is;

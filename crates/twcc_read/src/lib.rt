@@ -20,14 +20,14 @@ pub fn read(block: &[u8], list: &mut [i32]) -> Reading
     ensures { λ r. ⌜ Reads (now (block .entry)) (now (list .entry)) r (now (list .exit)) ⌝ }
 {
     if block.len() < 8 {
-        return Reading::No(Refusal::TooShort {
+        return Reading::No(Refusal::Truncated {
             expected: 8,
             actual: block.len(),
         });
     }
     let count = twcc_fill::fill(block, list);
     if list.len() < count {
-        return Reading::No(Refusal::Room {
+        return Reading::No(Refusal::OutputTooSmall {
             needed: count,
             present: list.len(),
         });

@@ -416,23 +416,23 @@ pub fn write(
 {
     let count = time.0;
     if LATEST < count {
-        return Written::No(Refusal::Time(count));
+        return Written::No(Refusal::ReferenceTimeTooLarge(count));
     }
     if MOST < list.len() {
-        return Written::No(Refusal::ListLength(list.len()));
+        return Written::No(Refusal::ListTooLong(list.len()));
     }
     let bad = twcc_pick::first_bad(list);
     if bad < list.len() {
-        return Written::No(Refusal::Word(bad));
+        return Written::No(Refusal::StatusOutOfRange(bad));
     }
     let smallest = least(limit);
     if smallest < 8 {
-        return Written::No(Refusal::Limit(smallest));
+        return Written::No(Refusal::LimitTooSmall(smallest));
     }
     let present = out.len();
     let needed = lacking(list, limit, present);
     if 0 < needed {
-        return Written::No(Refusal::Room { needed, present });
+        return Written::No(Refusal::OutputTooSmall { needed, present });
     }
     Written::Block(put_block(base, time, feedback, list, limit, out))
 }

@@ -19,14 +19,14 @@ pub fn parse(packet: &[u8]) -> Checked
 {
     let present = packet.len();
     if present < utils::SHORTEST {
-        return Checked::No(Refusal::TooShort {
+        return Checked::No(Refusal::Truncated {
             expected: utils::SHORTEST,
             actual: present,
         });
     }
     let version = packet[0] / 64;
     if version != 2 {
-        return Checked::No(Refusal::Version(version));
+        return Checked::No(Refusal::UnsupportedVersion(version));
     }
     utils::check_length(packet)
 }
@@ -74,22 +74,22 @@ pub fn write(count: u8, packet_type: u8, body: &[u8], padding: u8, out: &mut [u8
     ensures { λ r. ⌜ Wrote count «packet_type» (now (body .entry)) padding (now (out .entry)) r (now (out .exit)) ⌝ }
 {
     if 31 < count {
-        return Number::No(Refusal::Count(count));
+        return Number::No(Refusal::CountOutOfRange(count));
     }
     if padding % 4 != 0 {
         return Number::No(Refusal::UnevenPadding(padding));
     }
     let size = body.len();
     if size % 4 != 0 {
-        return Number::No(Refusal::Body(size));
+        return Number::No(Refusal::BodyLength(size));
     }
     let needed = 4 + size + padding as usize;
     if utils::LONGEST < needed {
-        return Number::No(Refusal::Body(size));
+        return Number::No(Refusal::BodyLength(size));
     }
     let present = out.len();
     if present < needed {
-        return Number::No(Refusal::Room { needed, present });
+        return Number::No(Refusal::OutputTooSmall { needed, present });
     }
     put_body(count, packet_type, body, padding, out);
     put_padding(padding, out, 4 + size);

@@ -58,7 +58,7 @@ fn field_of(packet: &[u8], value: usize) -> Number
     ensures { λ r. ⌜ saidNumber r ≡ field (now (packet .entry)) value ⌝ }
 {
     if packet.len() < SHORTEST {
-        return Number::No(Refusal::TooShort {
+        return Number::No(Refusal::Truncated {
             expected: SHORTEST,
             actual: packet.len(),
         });
@@ -101,7 +101,7 @@ pub fn parse_padding(packet: &[u8]) -> Padded
     ensures { λ r. ⌜ saidPadded r ≡ paddingByte (now (packet .entry)) ⌝ }
 {
     if packet.len() < SHORTEST {
-        return Padded::No(Refusal::TooShort {
+        return Padded::No(Refusal::Truncated {
             expected: SHORTEST,
             actual: packet.len(),
         });
@@ -111,7 +111,7 @@ pub fn parse_padding(packet: &[u8]) -> Padded
     }
     let length = length_of(packet);
     if packet.len() < length {
-        return Padded::No(Refusal::TooShort {
+        return Padded::No(Refusal::Truncated {
             expected: length,
             actual: packet.len(),
         });
@@ -126,13 +126,13 @@ fn own_length(packet: &[u8]) -> Checked
     let present = packet.len();
     let length = length_of(packet);
     if present < length {
-        return Checked::No(Refusal::TooShort {
+        return Checked::No(Refusal::Truncated {
             expected: length,
             actual: present,
         });
     }
     if length < present {
-        return Checked::No(Refusal::TooLong {
+        return Checked::No(Refusal::TooLarge {
             expected: length,
             actual: present,
         });
@@ -145,7 +145,7 @@ pub fn check_length(packet: &[u8]) -> Checked
     ensures { λ r. ⌜ saidChecked r ≡ checkLength (now (packet .entry)) ⌝ }
 {
     if packet.len() < SHORTEST {
-        return Checked::No(Refusal::TooShort {
+        return Checked::No(Refusal::Truncated {
             expected: SHORTEST,
             actual: packet.len(),
         });
@@ -161,7 +161,7 @@ fn own_padding(packet: &[u8]) -> Checked
         return Checked::Fine;
     }
     if octets::byte_at(packet, length_of(packet) - 1) == 0 {
-        return Checked::No(Refusal::Padding);
+        return Checked::No(Refusal::InvalidPadding);
     }
     Checked::Fine
 }
@@ -171,24 +171,24 @@ pub fn check_packet(packet: &[u8], least: usize, packet_type: u8) -> Checked
     ensures { λ r. ⌜ saidChecked r ≡ checkPacket (now (packet .entry)) least «packet_type» ⌝ }
 {
     if least < SHORTEST {
-        return Checked::No(Refusal::Least(least));
+        return Checked::No(Refusal::LeastLength(least));
     }
     if LONGEST < least {
-        return Checked::No(Refusal::Least(least));
+        return Checked::No(Refusal::LeastLength(least));
     }
     if packet.len() < least {
-        return Checked::No(Refusal::TooShort {
+        return Checked::No(Refusal::Truncated {
             expected: least,
             actual: packet.len(),
         });
     }
     let version = packet[0] / 64;
     if version != 2 {
-        return Checked::No(Refusal::Version(version));
+        return Checked::No(Refusal::UnsupportedVersion(version));
     }
     let actual = packet[1];
     if actual != packet_type {
-        return Checked::No(Refusal::PacketType {
+        return Checked::No(Refusal::PacketTypeMismatch {
             actual,
             requested: packet_type,
         });
