@@ -1,6 +1,6 @@
 //! The arrival of a received entry: the rule of docs/RULES.md alone, for the crate has only a comment on it.
 
-use ours::Said;
+use ours::{Expect, Said};
 
 use crate::case::{Book, Effort, Seen};
 use crate::record::Case;

@@ -4,7 +4,7 @@ use std::collections::BTreeMap;
 use std::fmt;
 use std::panic::{catch_unwind, set_hook, take_hook, AssertUnwindSafe};
 
-use ours::{Random, Said};
+use ours::{Expect, Random, Said};
 use rtcp_types::RtcpParseError;
 
 use crate::record::{Case, Sample};

@@ -1,6 +1,6 @@
 //! Compounds, packets of any type, the walk from any offset and the plain packet writer.
 
-use ours::{Random, Said};
+use ours::{Expect, Random, Said};
 use rtcp_types::prelude::*;
 use rtcp_types::{Compound, Packet, RtcpWriteError, Unknown, UnknownBuilder};
 

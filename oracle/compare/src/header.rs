@@ -1,6 +1,6 @@
 //! The header fields, each read alone, and `check_packet`, against the crate's parsing helpers.
 
-use ours::{Random, Said};
+use ours::{Expect, Random, Said};
 use rtcp_types::utils::parser;
 use rtcp_types::{RtcpPacket, RtcpParseError};
 

@@ -2,7 +2,7 @@
 
 use std::collections::BTreeSet;
 
-use ours::{Random, Said};
+use ours::{Expect, Random, Said};
 use rtcp_types::prelude::*;
 use rtcp_types::{Nack, NackBuilder};
 

@@ -1,6 +1,6 @@
 //! Reading a TWCC block into a list of words, against `Twcc` and its iterator over packets.
 
-use ours::{Random, Said};
+use ours::{Expect, Random, Said};
 use rtcp_types::prelude::*;
 use rtcp_types::{RtcpParseError, Twcc, TwccPacketStatus};
 

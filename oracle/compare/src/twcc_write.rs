@@ -1,6 +1,6 @@
 //! Writing TWCC blocks, against `TwccBuilder`, and whole lists cut into blocks and read back.
 
-use ours::{Random, Said};
+use ours::{Expect, Random, Said};
 use rtcp_types::prelude::*;
 use rtcp_types::{RtcpWriteError, TwccBuilder, TwccPacketStatus};
 
