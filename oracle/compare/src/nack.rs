@@ -69,7 +69,7 @@ fn compare_add(effort: &Effort) -> Book {
                 wrong_place: store.changed_place(),
             };
             let expected = Said::refusal(16, &[length as u64]);
-            let numbers = [number.into(), length as i128];
+            let numbers = [number.into()];
             let case = Case::default()
                 .numbers(&numbers)
                 .lent(Memory::Store(store.was()), Memory::Store(&[]));
@@ -93,7 +93,7 @@ fn add_to(book: &mut Book, random: &mut Random, held: &[u16], number: u16) {
         said,
         wrong_place: store.wrong_place(&answer),
     };
-    let numbers = [number.into(), STORE as i128];
+    let numbers = [number.into()];
     let case = Case::default()
         .numbers(&numbers)
         .lent(Memory::Store(store.was()), Memory::Store(&answer))
@@ -235,9 +235,7 @@ fn compare_write(effort: &Effort) -> Book {
                 wrong_place: store.changed_place().or(out.changed_place()),
             };
             let expected = Said::refusal(16, &[length as u64]);
-            let numbers = [length as i128];
             let case = Case::default()
-                .numbers(&numbers)
                 .read(Memory::Store(store.was()))
                 .lent(Memory::Bytes(out.was()), Memory::Bytes(&[]));
             book.enter(expected, seen, case);
@@ -318,9 +316,7 @@ fn write(book: &mut Book, random: &mut Random, numbers: &[u16], bytes: &[u8], ro
         said,
         wrong_place: store.changed_place().or(out.wrong_place(answer)),
     };
-    let lengths = [STORE as i128];
     let case = Case::default()
-        .numbers(&lengths)
         .read(Memory::Store(store.was()))
         .lent(Memory::Bytes(out.was()), Memory::Bytes(answer));
     book.enter(expected, seen, case);
