@@ -43,12 +43,13 @@ impl Readers {
     /// All calls on the same data.
     fn read(&mut self, data: &[u8]) {
         let random = &mut self.random;
-        let case = Case::reading(data);
         let (said, lent) = read_only(random, data, ours::compound_parse);
         let expected = expected_compound(data);
+        let case = Case::reading(data);
         self.compound.enter(expected, said, &[&lent.kept()], case);
         let (said, lent) = read_only(random, data, ours::unknown_parse);
         let expected = expected_unknown(data);
+        let case = Case::reading(data);
         self.unknown.enter(expected, said, &[&lent.kept()], case);
         self.walk(data);
     }

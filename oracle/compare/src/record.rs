@@ -2,7 +2,7 @@
 
 use std::collections::{BTreeMap, BTreeSet};
 
-use ours::{Random, Said};
+use ours::{Expect, Random, Said};
 
 use crate::case::Expected;
 use crate::line::{Line, HEAD};
@@ -122,7 +122,7 @@ impl<'a> Case<'a> {
 
     /// How many parts of memory the call is lent.
     pub fn parts(&self) -> usize {
-        usize::from(self.read.is_some()) + usize::from(self.lent.is_some())
+        usize::from(self.read.is_some()) + self.lent.len()
     }
 
     /// Whether its memory is large, though its line may be short.
