@@ -4,8 +4,8 @@ use mathlib.Core.List.{List, [], _∷_, map}
 use mathlib.Core.Path.{_≡_, refl}
 use Rattle.refusal.specs.Outcome.{gave, refuse}
 use Rattle.nack.specs.Examples.{Fixed, fixed}
-use Rattle.twcc.specs.Examples.{read, examples-read, table as blocks}
-use Rattle.twcc_plan.specs.WritingExamples.{write, examples-written, table as lists}
+use Rattle.twcc.proofs.Examples.{read, examples-read, table as blocks}
+use Rattle.twcc_plan.proofs.WritingExamples.{write, examples-written, table as lists}
 use Rattle.compound.specs.Pass.{firstTurn, passFrom, firstPass}
 use Rattle.compound.specs.Walk.{step, packet, over, walkStep}
 

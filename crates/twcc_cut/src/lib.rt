@@ -1,4 +1,4 @@
-// Cutting a list into blocks: the theorem that the cuts can't be seen is in specs/; here is the one number that goes from
+// Cutting a list into blocks: the theorem that the cuts can't be seen is stated in specs/ and proved in proofs/; here is the one number that goes from
 // block to block.
 use kinds::Seq;
 ghost use mathlib.Core.Path.{_≡_};
