@@ -1,10 +1,11 @@
--- No slack: two outcomes, plan and buffer, that satisfy the promise are equal.
+-- No slack: two outcomes, plan and buffer, that meet a promise are equal.
 use Prim.Native.Nat.{ℕ}
 use mathlib.Core.Path.{_≡_, sym, ap, _∙_}
 use mathlib.Core.List.{List}
 use mathlib.Core.Option.{Option}
 use lib.IntN.{ℤ}
 use Rattle.twcc_plan.specs.Limits.{upFour}
+use Rattle.twcc_plan.specs.Block.{firstBad}
 use Rattle.twcc_plan.specs.Promise.{Plans}
 use Rattle.twcc_plan.specs.declared.Plan.{Plan}
 
@@ -15,3 +16,6 @@ plans-unique {p = p} {q = q} one two =
     let bytes = one .bytes ∙ ap upFour used ∙ sym (two .bytes) in
     let taken = one .taken ∙ sym (two .taken) in
     (λ i. record { chunks = chunks i; used = used i; bytes = bytes i; taken = taken i }, one .stored ∙ sym (two .stored))
+
+pub first-bad-unique : (list : List ℤ) (a b : ℕ) → a ≡ firstBad list → b ≡ firstBad list → a ≡ b
+first-bad-unique list a b one two = one ∙ sym two
