@@ -44,7 +44,7 @@ extern "C" {
 
 typedef struct {
     uint64_t number;    /* 0: answered. Otherwise the refusal's number */
-    uint64_t values[5]; /* the answer's or the refusal's values in order; the rest 0.
+    uint64_t values[8]; /* the answer's or the refusal's values in order; the rest 0.
                            A signed value stands in its two's complement */
 } bog_said;
 

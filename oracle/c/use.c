@@ -21,7 +21,7 @@ static void check(const char *name, bool holds)
 static bool says(bog_said said, uint64_t number, uint64_t a, uint64_t b, uint64_t c, uint64_t d,
                  uint64_t e)
 {
-    const uint64_t values[5] = {a, b, c, d, e};
+    const uint64_t values[8] = {a, b, c, d, e, 0, 0, 0};
     return said.number == number && memcmp(said.values, values, sizeof values) == 0;
 }
 

@@ -103,7 +103,7 @@ pub enum Refusal {
         /// The number given.
         number: u64,
         /// The values that came with it.
-        values: [u64; 5],
+        values: [u64; 8],
     },
 }
 
@@ -113,16 +113,16 @@ impl Refusal {
     /// ```
     /// use bogslipper::Refusal;
     ///
-    /// let refusal = Refusal::new(2, [1, 0, 0, 0, 0]);
+    /// let refusal = Refusal::new(2, [1, 0, 0, 0, 0, 0, 0, 0]);
     /// assert_eq!(refusal, Refusal::UnsupportedVersion { version: 1 });
-    /// let refusal = Refusal::new(99, [7, 0, 0, 0, 0]);
-    /// assert_eq!(refusal, Refusal::Other { number: 99, values: [7, 0, 0, 0, 0] });
+    /// let refusal = Refusal::new(99, [7, 0, 0, 0, 0, 0, 0, 0]);
+    /// assert_eq!(refusal, Refusal::Other { number: 99, values: [7, 0, 0, 0, 0, 0, 0, 0] });
     /// ```
-    pub fn new(number: u64, values: [u64; 5]) -> Refusal {
+    pub fn new(number: u64, values: [u64; 8]) -> Refusal {
         Refusal::known(number, values).unwrap_or(Refusal::Other { number, values })
     }
 
-    fn known(number: u64, values: [u64; 5]) -> Option<Refusal> {
+    fn known(number: u64, values: [u64; 8]) -> Option<Refusal> {
         let [first, second, ..] = values;
         let length = |value: u64| usize::try_from(value).ok();
         let byte = |value: u64| u8::try_from(value).ok();
@@ -213,9 +213,9 @@ impl Refusal {
     /// use bogslipper::Refusal;
     ///
     /// let refusal = Refusal::Truncated { expected: 8, actual: 4 };
-    /// assert_eq!(refusal.values(), [8, 4, 0, 0, 0]);
+    /// assert_eq!(refusal.values(), [8, 4, 0, 0, 0, 0, 0, 0]);
     /// ```
-    pub fn values(&self) -> [u64; 5] {
+    pub fn values(&self) -> [u64; 8] {
         let (first, second) = match *self {
             Refusal::Truncated { expected, actual } => (expected as u64, actual as u64),
             Refusal::UnsupportedVersion { version } => (version.into(), 0),
@@ -234,7 +234,7 @@ impl Refusal {
             Refusal::LeastLength { least } => (least as u64, 0),
             Refusal::Other { values, .. } => return values,
         };
-        [first, second, 0, 0, 0]
+        [first, second, 0, 0, 0, 0, 0, 0]
     }
 }
 

@@ -89,6 +89,30 @@ fn a_padded_last_packet_passes() {
 }
 
 #[test]
+fn a_compound_may_start_with_any_type() {
+    for type_ in 0..=255 {
+        let data = [0x80, type_, 0, 0];
+        let packets: Result<Vec<_>, _> = Compound::parse(&data).expect("a compound").collect();
+        assert_eq!(packets, Ok(vec![&data[..]]));
+    }
+}
+
+#[test]
+fn the_walk_looks_into_no_packet() {
+    for type_ in 200..=207 {
+        for first in [0x80, 0x9F, 0xA0] {
+            let data = [0x80, type_, 0, 0, first, type_, 0, 0];
+            let packets: Result<Vec<_>, _> = Compound::parse(&data).expect("a compound").collect();
+            assert_eq!(packets, Ok(vec![&data[..4], &data[4..]]));
+            assert_eq!(
+                Unknown::parse(&data[4..]).map(|packet| packet.type_()),
+                Ok(type_)
+            );
+        }
+    }
+}
+
+#[test]
 fn one_packet_of_any_type_tests_in_its_order() {
     let parse = |hex: &str| Unknown::parse(&bytes(hex)).map(|packet| packet.length());
     let truncated = |expected, actual| Err(Refusal::Truncated { expected, actual });

@@ -91,6 +91,19 @@ fn check_packet_tests_in_its_order() {
 }
 
 #[test]
+fn padding_counts_but_0_pass() {
+    for count in 0..=255 {
+        let mut packet = bytes("A0 CB 00 01 00 00 00 00");
+        packet[7] = count;
+        let expected = match count {
+            0 => Err(Refusal::InvalidPadding),
+            _ => Ok(()),
+        };
+        assert_eq!(check_packet(&packet, 4, 203), expected);
+    }
+}
+
+#[test]
 fn a_checked_packet_is_whole() {
     let mut random = Random(1);
     let mut passed = 0;

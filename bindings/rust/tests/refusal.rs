@@ -114,7 +114,7 @@ fn table() -> Vec<(u64, [u64; 2], Refusal, &'static str)> {
 #[test]
 fn number_and_values_make_the_case_and_come_back() {
     for (number, [first, second], refusal, _) in table() {
-        let values = [first, second, 0, 0, 0];
+        let values = [first, second, 0, 0, 0, 0, 0, 0];
         assert_eq!(Refusal::new(number, values), refusal);
         assert_eq!((refusal.number(), refusal.values()), (number, values));
     }
@@ -132,20 +132,20 @@ fn every_refusal_has_its_words() {
 #[test]
 fn an_unknown_number_is_kept_whole() {
     for number in [0, 6, 7, 18, 99, u64::MAX] {
-        let values = [1, 2, 3, 4, u64::MAX];
+        let values = [1, 2, 3, 4, 5, 6, 7, u64::MAX];
         let refusal = Refusal::new(number, values);
         assert_eq!(refusal, Refusal::Other { number, values });
         assert_eq!((refusal.number(), refusal.values()), (number, values));
     }
     assert_eq!(
-        Refusal::new(99, [1, 2, 0, 0, 0]).to_string(),
-        "refusal number 99 with the values [1, 2, 0, 0, 0]"
+        Refusal::new(99, [1, 2, 0, 0, 0, 0, 0, 0]).to_string(),
+        "refusal number 99 with the values [1, 2, 0, 0, 0, 0, 0, 0]"
     );
 }
 
 #[test]
 fn a_value_that_no_case_holds_is_kept_whole() {
-    let values = [256, 0, 0, 0, 0];
+    let values = [256, 0, 0, 0, 0, 0, 0, 0];
     assert_eq!(
         Refusal::new(2, values),
         Refusal::Other { number: 2, values }
@@ -155,7 +155,7 @@ fn a_value_that_no_case_holds_is_kept_whole() {
 #[test]
 fn the_largest_figure_passes() {
     assert_eq!(
-        Refusal::new(15, [u64::MAX, 0, 0, 0, 0]),
+        Refusal::new(15, [u64::MAX, 0, 0, 0, 0, 0, 0, 0]),
         Refusal::OutputTooSmall {
             needed: usize::MAX,
             present: 0

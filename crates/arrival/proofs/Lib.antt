@@ -1,2 +1,2 @@
-pub mod Sign
 pub mod Sums
+pub mod Unique

@@ -18,7 +18,7 @@ pub fn arrival(time: RefTime, delta: i16) -> Arrived
 {
     let t = time.0;
     if LATEST_TIME < t {
-        return Arrived::No(Refusal::Time(t));
+        return Arrived::No(Refusal::ReferenceTimeTooLarge(t));
     }
     let start = (t * 256) as i64;
     Arrived::At(Tick(start + (delta as i64)))

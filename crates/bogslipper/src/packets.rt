@@ -5,6 +5,7 @@ use crate::words;
 use compound::Found;
 use libc::STDOUT_FILENO;
 use refusal::Checked;
+use refusal::Number;
 use refusal::Refusal;
 use utils::Padded;
 
@@ -49,7 +50,7 @@ fn walk(bytes: &[u8]) -> bool {
         let found = walked.found;
         let next = walked.next;
         match found {
-            Found::Packet => packet(compound::walk_part(bytes, at), at),
+            Found::Packet(_) => packet(compound::walk_part(bytes, at), at),
             Found::Over => return true,
             Found::No(r) => {
                 stopped(at, r);
@@ -71,26 +72,30 @@ fn stopped(at: usize, r: Refusal) {
 
 fn packet(packet: &[u8], at: usize) {
     let mut line = [0u8; LONGEST];
-    let kind = utils::type_of(packet);
-    let count = utils::count_of(packet);
+    let kind = field(utils::parse_packet_type(packet));
+    let count = field(utils::parse_count(packet));
     let p = line::number(&mut line, 0, at as u64, 7);
-    let p = small(&mut line, p, kind, 6);
+    let p = line::number(&mut line, p, kind, 6);
     let p = line::text(&mut line, p, b"  ");
     let p = name(&mut line, p, kind);
-    let p = small(&mut line, p, count, 7);
-    let p = line::number(&mut line, p, utils::length_of(packet) as u64, 8);
+    let p = line::number(&mut line, p, count, 7);
+    let p = line::number(&mut line, p, packet.len() as u64, 8);
     let p = padding(&mut line, p, packet);
     let p = line::text(&mut line, p, b"  ");
     let p = holds(&mut line, p, kind, count);
     line::write(line, p, STDOUT_FILENO);
 }
 
-fn small(line: &mut [u8; LONGEST], at: usize, n: u8, width: usize) -> usize {
-    line::number(line, at, n as u64, width)
+// A field of a packet that the walk found, which has its header.
+fn field(read: Number) -> u64 {
+    match read {
+        Number::Is(value) => value as u64,
+        Number::No(_) => 0,
+    }
 }
 
 // The type's name in the register of RTCP packet types.
-fn name(line: &mut [u8; LONGEST], at: usize, kind: u8) -> usize {
+fn name(line: &mut [u8; LONGEST], at: usize, kind: u64) -> usize {
     match kind {
         200 => line::left(line, at, b"SR", 5),
         201 => line::left(line, at, b"RR", 5),
@@ -108,13 +113,13 @@ fn name(line: &mut [u8; LONGEST], at: usize, kind: u8) -> usize {
 fn padding(line: &mut [u8; LONGEST], at: usize, packet: &[u8]) -> usize {
     match utils::parse_padding(packet) {
         Padded::Clear => line::right(line, at, b"-", 9),
-        Padded::Byte(count) => small(line, at, count, 9),
+        Padded::Byte(count) => line::number(line, at, count as u64, 9),
         Padded::No(_) => line::right(line, at, b"-", 9),
     }
 }
 
 // The block that stands from byte 12 of a feedback packet on, whose count is its format.
-fn holds(line: &mut [u8; LONGEST], at: usize, kind: u8, count: u8) -> usize {
+fn holds(line: &mut [u8; LONGEST], at: usize, kind: u64, count: u64) -> usize {
     if kind == 205 {
         if count == 1 {
             return line::text(line, at, b"nack");

@@ -1,7 +1,5 @@
-pub mod Unknown
 pub mod Pass
 pub mod Walk
 pub mod Said
-pub mod Laws
 pub mod Packets
-pub mod Unique
+pub mod Inner

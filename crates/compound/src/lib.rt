@@ -1,5 +1,4 @@
-// Several packets laid end to end (compound.rs): the first pass over them, the step of the walk from packet to packet, and
-// the packet of any type.
+// Several packets laid end to end (compound.rs): the first pass over them, and the step of the walk from packet to packet.
 use refusal::Checked;
 use refusal::Refusal;
 ghost use mathlib.Core.Path.{_≡_};
@@ -7,22 +6,27 @@ ghost use Prim.Native.Nat.{_+_, _*_, _<_, _≤_};
 ghost use lib.ListN.{length};
 ghost use Rattle.refusal.specs.Said.{saidChecked};
 ghost use Rattle.utils.specs.Header.{versionOf};
-ghost use Rattle.compound.specs.Unknown.{unknown};
 ghost use Rattle.compound.specs.Pass.{firstTurn, firstPass};
-ghost use Rattle.compound.specs.Walk.{walkStep, walkNext, walkPart};
-ghost use Rattle.compound.specs.Said.{saidTurn, saidWalked};
-ghost use Rattle.compound.specs.Laws.{WordsBehind};
+ghost use Rattle.compound.specs.Walk.{walkStep, walkNext, HandsBack};
+ghost use Rattle.compound.specs.Said.{saidWalked};
+ghost use Rattle.compound.specs.Inner.{WordsBehind, saidTurn};
 
 // One turn of the first pass: where the next packet starts, in words of four bytes.
-pub enum Turn {
+enum Turn {
     Next(usize),
     No(Refusal),
+}
+
+// A packet within the bytes: where it starts, and how long it is.
+pub struct Packet {
+    pub start: usize,
+    pub length: usize,
 }
 
 // What the walk finds at an offset.
 pub enum Found {
     Over,
-    Packet,
+    Packet(Packet),
     No(Refusal),
 }
 
@@ -32,38 +36,13 @@ pub struct Walked {
     pub next: usize,
 }
 
-// `Unknown::parse`: one packet of any type, neither shorter nor longer than it says.
-pub fn unknown_parse(packet: &[u8]) -> Checked
-    ensures { λ r. ⌜ saidChecked r ≡ unknown (now (packet .entry)) ⌝ }
-{
-    let present = packet.len();
-    if present < 4 {
-        return Checked::No(Refusal::TooShort {
-            expected: 4,
-            actual: present,
-        });
-    }
-    let version = utils::version_of(packet);
-    if version != 2 {
-        return Checked::No(Refusal::Version(version));
-    }
-    utils::check_length(packet)
-}
-
-// A byte where a larger number is wanted.
-fn wide(byte: u8) -> usize
-    ensures { λ r. ⌜ (r ≡ byte) × (r < 256) ⌝ }
-{
-    byte as usize
-}
-
 // The length field of the packet that starts at an offset: words of four bytes behind the first. Tests on the field itself
 // let the compiler load its two bytes as one.
 fn words_behind(bytes: &[u8], at: usize) -> usize
     requires { ⌜ at + 4 ≤ length (now bytes) ⌝ }
     ensures { λ r. ⌜ WordsBehind (now (bytes .entry)) at r ⌝ }
 {
-    256 * wide(bytes[at + 2]) + wide(bytes[at + 3])
+    octets::joined(bytes[at + 2], bytes[at + 3])
 }
 
 // The tests of the first pass at a packet whose header is there, once the first packet's version is known to be 2. The
@@ -77,7 +56,7 @@ fn turn_at(bytes: &[u8], word: usize) -> Turn
     let behind = words_behind(bytes, at);
     let next = word + 1 + behind;
     if end / 4 - word <= behind {
-        return Turn::No(Refusal::TooShort {
+        return Turn::No(Refusal::Truncated {
             expected: 4 * next,
             actual: end,
         });
@@ -86,7 +65,7 @@ fn turn_at(bytes: &[u8], word: usize) -> Turn
         return Turn::Next(next);
     }
     if 4 * next < end {
-        return Turn::No(Refusal::Padding);
+        return Turn::No(Refusal::InvalidPadding);
     }
     Turn::Next(next)
 }
@@ -97,14 +76,14 @@ pub fn parse(bytes: &[u8]) -> Checked
 {
     let end = bytes.len();
     if end < 4 {
-        return Checked::No(Refusal::TooShort {
+        return Checked::No(Refusal::Truncated {
             expected: 4,
             actual: end,
         });
     }
-    let version = utils::version_of(bytes);
+    let version = bytes[0] / 64;
     if version != 2 {
-        return Checked::No(Refusal::Version(version));
+        return Checked::No(Refusal::UnsupportedVersion(version));
     }
     let mut word = 0;
     while word < end / 4 {
@@ -118,7 +97,7 @@ pub fn parse(bytes: &[u8]) -> Checked
         }
     }
     if 4 * word < end {
-        return Checked::No(Refusal::TooShort {
+        return Checked::No(Refusal::Truncated {
             expected: 4 * word + 4,
             actual: end,
         });
@@ -139,7 +118,7 @@ pub fn walk_step(bytes: &[u8], at: usize) -> Walked
     }
     if end - at < 4 {
         return Walked {
-            found: Found::No(Refusal::TooShort {
+            found: Found::No(Refusal::Truncated {
                 expected: at + 4,
                 actual: end,
             }),
@@ -150,7 +129,7 @@ pub fn walk_step(bytes: &[u8], at: usize) -> Walked
     let next = at + 4 + 4 * behind;
     if (end - at) / 4 <= behind {
         return Walked {
-            found: Found::No(Refusal::TooShort {
+            found: Found::No(Refusal::Truncated {
                 expected: next,
                 actual: end,
             }),
@@ -160,25 +139,28 @@ pub fn walk_step(bytes: &[u8], at: usize) -> Walked
     let version = bytes[at] / 64;
     if version != 2 {
         return Walked {
-            found: Found::No(Refusal::Version(version)),
+            found: Found::No(Refusal::UnsupportedVersion(version)),
             next: end,
         };
     }
     Walked {
-        found: Found::Packet,
+        found: Found::Packet(Packet {
+            start: at,
+            length: next - at,
+        }),
         next,
     }
 }
 
 // The packet that the step hands back, as a part of the lent bytes; empty where it hands back none.
 pub fn walk_part(bytes: &[u8], at: usize) -> &[u8]
-    ensures { λ r. ⌜ now r ≡ walkPart (now (bytes .entry)) at ⌝ }
+    ensures { λ r. ⌜ HandsBack (bytes .entry) at r ⌝ }
 {
     let walked = walk_step(bytes, at);
     let found = walked.found;
     let next = walked.next;
     match found {
-        Found::Packet => &bytes[at..next],
+        Found::Packet(_) => &bytes[at..next],
         Found::Over => &bytes[..0],
         Found::No(_) => &bytes[..0],
     }

@@ -1,5 +1,4 @@
-// Runs every fixed example through the public functions and prints what each answers.
-use compound::Found;
+// Runs the fixed examples of docs/RULES.md that are not marked P, in its order, and prints what each call answers.
 use kinds::RefTime;
 use kinds::Seq;
 use libc::STDOUT_FILENO;
@@ -38,25 +37,6 @@ fn say_parse(label: &[u8], bytes: &[u8]) {
             say_values(r);
         }
     }
-}
-
-fn say_step(bytes: &[u8], at: usize) {
-    say(b"  walk at ");
-    say_number(at as u64);
-    let walked = compound::walk_step(bytes, at);
-    let next = walked.next;
-    let found = walked.found;
-    match found {
-        Found::Over => say(b": over, next "),
-        Found::Packet => say(b": packet, next "),
-        Found::No(r) => {
-            say(b": ");
-            say_values(r);
-            say(b"    next ");
-        }
-    }
-    say_number(next as u64);
-    say(b"\n");
 }
 
 fn say_byte(byte: u8) {
@@ -134,16 +114,8 @@ fn say_block(label: &[u8], list: &[i32], limit: Limit) {
     }
 }
 
-// A status word that the reading examples have.
+// A status word: the reading example has 9.
 fn say_word(word: i32) {
-    if word == 32769 {
-        say(b" truncated");
-        return;
-    }
-    if word == 32770 {
-        say(b" reserved");
-        return;
-    }
     if word == 9 {
         say(b" 9");
         return;
@@ -182,13 +154,32 @@ fn say_twcc_read(label: &[u8], block: &[u8]) {
     }
 }
 
+fn blocks_written() {
+    say(b"TWCC, writing\n");
+    let lost = [32768i32; 8192];
+    say_block(b"8,192 not received", &lost, Limit::Absent);
+    say_block(b"delta 256", &[256], Limit::Absent);
+    say_block(b"delta -1", &[-1], Limit::Absent);
+    let large = [256i32; 8];
+    say_block(b"8 large, limit 24", &large, Limit::Bytes(24));
+}
+
+fn blocks_read() {
+    say(b"TWCC, reading\n");
+    say_twcc_read(
+        b"00 05 00 01 00 00 00 00 20 00 20 01 09",
+        b"\x00\x05\x00\x01\x00\x00\x00\x00\x20\x00\x20\x01\x09",
+    );
+}
+
+fn nacks() {
+    say(b"Generic NACK\n");
+    say_nack_write(b"{65535, 0}:", 65535, 0);
+    say_nack_read(b"00 0A 00 03 FF:", b"\x00\x0a\x00\x03\xff");
+}
+
 fn compounds() {
     say(b"Compounds\n");
-    let second = b"\x80\xcb\x00\x00\x40\xcb\x00\x00";
-    say_parse(b"80 CB 00 00 40 CB 00 00", second);
-    say_step(second, 0);
-    say_step(second, 4);
-    say_step(second, 8);
     say_parse(
         b"A0 CB 00 00 80 CB 00 00",
         b"\xa0\xcb\x00\x00\x80\xcb\x00\x00",
@@ -198,58 +189,9 @@ fn compounds() {
     say_parse(b"00 CB 00 01", b"\x00\xcb\x00\x01");
 }
 
-fn nacks() {
-    say(b"Generic NACK\n");
-    say_nack_write(b"{0, 16}:", 0, 16);
-    say_nack_write(b"{0, 17}:", 0, 17);
-    say_nack_write(b"{65535, 0}:", 65535, 0);
-    say_nack_read(b"00 0A 00 03 FF:", b"\x00\x0a\x00\x03\xff");
-    say_nack_read(b"FF FF 00 01:", b"\xff\xff\x00\x01");
-}
-
-fn blocks_written() {
-    say(b"TWCC, writing\n");
-    let lost = [32768i32; 8];
-    let many = [32768i32; 8192];
-    let zeros = [0i32; 9];
-    let large = [256i32; 8];
-    say_block(b"nothing", &lost[..0], Limit::Absent);
-    say_block(b"7 not received", &lost[..7], Limit::Absent);
-    say_block(b"8 not received", &lost, Limit::Absent);
-    say_block(b"8,192 not received", &many, Limit::Absent);
-    let small_last = [32768, 32768, 32768, 32768, 32768, 32768, 32768, 32768, 4];
-    say_block(b"8 not received, delta 4", &small_last, Limit::Absent);
-    let large_last = [32768, 32768, 32768, 32768, 32768, 32768, 32768, 32768, 256];
-    say_block(b"8 not received, delta 256", &large_last, Limit::Absent);
-    say_block(b"delta 255", &[255], Limit::Absent);
-    say_block(b"delta 256", &[256], Limit::Absent);
-    say_block(b"delta -1", &[-1], Limit::Absent);
-    say_block(b"9 of delta 0, limit 12", &zeros, Limit::Bytes(12));
-    say_block(b"9 of delta 0, limit 8", &zeros, Limit::Bytes(8));
-    say_block(b"8 large, limit 24", &large, Limit::Bytes(24));
-    say_block(b"7 large, limit 23", &large[..7], Limit::Bytes(23));
-    say_block(b"7 large, limit 24", &large[..7], Limit::Bytes(24));
-}
-
-fn blocks_read() {
-    say(b"TWCC, reading\n");
-    say_twcc_read(
-        b"00 05 00 02 00 00 00 00 E4 00 7F",
-        b"\x00\x05\x00\x02\x00\x00\x00\x00\xe4\x00\x7f",
-    );
-    say_twcc_read(
-        b"00 05 00 02 00 00 00 00 F4 00 09",
-        b"\x00\x05\x00\x02\x00\x00\x00\x00\xf4\x00\x09",
-    );
-    say_twcc_read(
-        b"00 05 00 01 00 00 00 00 20 00 20 01 09",
-        b"\x00\x05\x00\x01\x00\x00\x00\x00\x20\x00\x20\x01\x09",
-    );
-}
-
 fn main() {
-    compounds();
-    nacks();
     blocks_written();
     blocks_read();
+    nacks();
+    compounds();
 }

@@ -1,6 +1,7 @@
 -- What the C interface's struct says of an outcome, and the values that each kind of answer has there.
-use Prim.Native.Nat.{ℕ, _-_}
+use Prim.Native.Nat.{ℕ, zero, suc}
 use mathlib.Core.List.{List, [], _∷_}
+use mathlib.Core.Path.{_≡_}
 use lib.IntN.{ℤ, pos}
 use Rattle.refusal.specs.Outcome.{Outcome, gave, refused}
 use Rattle.refusal.specs.Told.{valueBits}
@@ -10,22 +11,23 @@ use Rattle.twcc_read.specs.declared.Listed.{Listed}
 use Rattle.twcc_write.specs.declared.Used.{Used}
 use Rattle.exports.specs.declared.Said.{Said}
 
--- 0 for an answer, else the refusal's number
-abbrev numberSaid : Outcome (List ℤ) → ℕ
-numberSaid (gave values) = 0
-numberSaid (refused number values) = number
+-- the values from a place on, as many as asked for: signed ones in two's complement, 0 where there is none
+abbrev valuesFrom : ℕ → ℕ → List ℤ → List ℕ
+valuesFrom place zero values = []
+valuesFrom place (suc k) values = valueBits values place ∷ valuesFrom (suc place) k values
 
--- the answer's or the refusal's values
-abbrev valuesSaid : Outcome (List ℤ) → List ℤ
-valuesSaid (gave values) = values
-valuesSaid (refused number values) = values
+-- a number and its values in the struct's eight places
+abbrev pub says : ℕ → List ℤ → Said
+says number values = record { number = number; values = valuesFrom 0 8 values }
 
--- five places, signed values in two's complement, 0 where there is no value
-abbrev five : List ℤ → List ℕ
-five values = valueBits values 0 ∷ valueBits values 1 ∷ valueBits values 2 ∷ valueBits values 3 ∷ valueBits values 4 ∷ []
-
+-- 0 and the answer's values, or the refusal's number and its values
 unfoldable pub saidOf : Outcome (List ℤ) → Said
-saidOf outcome = record { number = numberSaid outcome; values = five (valuesSaid outcome) }
+saidOf (gave values) = says 0 values
+saidOf (refused number values) = says number values
+
+-- what a call promises that changes no memory
+abbrev pub Answers : Outcome (List ℤ) → Said → Type 0
+Answers outcome s = s ≡ saidOf outcome
 
 -- an answer by its values
 abbrev pub answered : {A : Type 0} → (A → List ℤ) → Outcome A → Outcome (List ℤ)
@@ -50,12 +52,12 @@ unfoldable pub padding : Outcome Padding → Outcome (List ℤ)
 padding = answered paddingValues
 
 -- 0, next offset, start, length of a packet; 1, the end where the walk is over
-abbrev pub walkValues : ℕ → Met → ℕ → List ℤ
-walkValues at packet next = pos 0 ∷ pos next ∷ pos at ∷ pos (next - at) ∷ []
-walkValues at over next = pos 1 ∷ pos next ∷ []
+abbrev pub walkValues : Met → ℕ → List ℤ
+walkValues (packet p) next = pos 0 ∷ pos next ∷ pos (p .start) ∷ pos (p .length) ∷ []
+walkValues over next = pos 1 ∷ pos next ∷ []
 
-unfoldable pub walk : ℕ → Step → Outcome (List ℤ)
-walk at (step found next) = answered (λ met. walkValues at met next) found
+unfoldable pub walk : Step → Outcome (List ℤ)
+walk (step found next) = answered (λ met. walkValues met next) found
 
 -- base, status count, reference time, feedback count, entries listed
 unfoldable pub listedBlock : Outcome Listed → Outcome (List ℤ)

@@ -8,7 +8,8 @@ use lib.IntN.{ℤ}
 use lib.ListN.{length}
 use lib.Seq.{sets}
 use Rattle.refusal.specs.Outcome.{Outcome}
-use Rattle.lent.specs.After.{held, over}
+use Rattle.lent.specs.Fills.{held}
+use Rattle.lent.specs.After.{over}
 use Rattle.unknown.specs.Packet.{packetBytes}
 use Rattle.unknown.specs.Write.{written}
 use Rattle.nack_store.specs.Bits.{added}
@@ -29,7 +30,7 @@ pub record Wrote {A B : Type 0} (say : Outcome A → Outcome (List ℤ)) (outcom
 
 abbrev pub WroteUnknown : ℕ → ℕ → List ℕ → ℕ → List ℕ → Said → List ℕ → Type 0
 WroteUnknown count type body padding old =
-    Wrote number (written count (length body) padding (length old)) (over (packetBytes count type body padding) old) old
+    Wrote number (written count (length body) padding (length old)) (sets old 0 (packetBytes count type body padding)) old
 
 abbrev pub AddedNack : List ℕ → ℕ → Said → List ℕ → Type 0
 AddedNack store n = Wrote nothing (sized store) (added store n) store

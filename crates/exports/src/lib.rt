@@ -12,149 +12,170 @@ use twcc_read::Reading;
 use twcc_write::Written;
 use utils::Padded;
 ghost use mathlib.Core.Path.{_≡_};
+ghost use mathlib.Core.List.{[], _∷_};
+ghost use lib.IntN.{pos};
 ghost use Rattle.refusal.specs.Number.{no};
 ghost use Rattle.refusal.specs.Said.{saidChecked, saidNumber};
 ghost use Rattle.utils.specs.Header.{versionOf, paddingBitOf, countOf, typeOf, lengthOf};
 ghost use Rattle.utils.specs.Check.{field, paddingByte, checkPacket};
-ghost use Rattle.compound.specs.Unknown.{unknown};
+ghost use Rattle.unknown.specs.Parse.{unknown};
 ghost use Rattle.compound.specs.Pass.{firstPass};
 ghost use Rattle.compound.specs.Walk.{walkStep};
 ghost use Rattle.arrival.specs.Arrival.{arrivalOf};
 ghost use Rattle.twcc_write.specs.Promise.{saidWritten};
-ghost use Rattle.exports.specs.Says.{saidOf, nothing, number, signed, padding, walk, block};
+ghost use Rattle.exports.specs.Says.{says, Answers, nothing, number, signed, padding, walk, block};
 ghost use Rattle.exports.specs.Wrote.{WroteUnknown, AddedNack, ReadNack, WroteNack, ReadTwcc, given, WroteTwcc};
 
 // Number 0 and the answer's values, or a refusal's number and its values; the rest 0.
 #[repr(C)]
 pub struct Said {
     pub number: u64,
-    pub values: [u64; 5],
+    pub values: [u64; 8],
+}
+
+// Answers by how many values they have.
+
+fn five(a: u64, b: u64, c: u64, d: u64, e: u64) -> Said
+    ensures { λ s. ⌜ s ≡ says 0 (pos a ∷ pos b ∷ pos c ∷ pos d ∷ pos e ∷ []) ⌝ }
+{
+    Said {
+        number: 0,
+        values: [a, b, c, d, e, 0, 0, 0],
+    }
+}
+
+fn four(a: u64, b: u64, c: u64, d: u64) -> Said
+    ensures { λ s. ⌜ s ≡ says 0 (pos a ∷ pos b ∷ pos c ∷ pos d ∷ []) ⌝ }
+{
+    five(a, b, c, d, 0)
+}
+
+fn two(a: u64, b: u64) -> Said
+    ensures { λ s. ⌜ s ≡ says 0 (pos a ∷ pos b ∷ []) ⌝ }
+{
+    four(a, b, 0, 0)
+}
+
+fn one(a: u64) -> Said
+    ensures { λ s. ⌜ s ≡ says 0 (pos a ∷ []) ⌝ }
+{
+    two(a, 0)
+}
+
+fn none() -> Said
+    ensures { λ s. ⌜ s ≡ says 0 [] ⌝ }
+{
+    one(0)
 }
 
 fn refused(r: Refusal) -> Said
-    ensures { λ s. ⌜ s ≡ saidOf (no r) ⌝ }
+    ensures { λ s. ⌜ Answers (no r) s ⌝ }
 {
     let told = refusal::tell(r);
+    let said = two(told.first, told.second);
+    let values = said.values;
     Said {
         number: told.number,
-        values: [told.first, told.second, 0, 0, 0],
+        values: values,
     }
 }
 
 fn said_checked(answer: Checked) -> Said
-    ensures { λ s. ⌜ s ≡ saidOf (nothing (saidChecked answer)) ⌝ }
+    ensures { λ s. ⌜ Answers (nothing (saidChecked answer)) s ⌝ }
 {
     match answer {
-        Checked::Fine => Said {
-            number: 0,
-            values: [0, 0, 0, 0, 0],
-        },
+        Checked::Fine => none(),
         Checked::No(r) => refused(r),
     }
 }
 
 fn said_number(answer: Number) -> Said
-    ensures { λ s. ⌜ s ≡ saidOf (number (saidNumber answer)) ⌝ }
+    ensures { λ s. ⌜ Answers (number (saidNumber answer)) s ⌝ }
 {
     match answer {
-        Number::Is(n) => Said {
-            number: 0,
-            values: [n as u64, 0, 0, 0, 0],
-        },
+        Number::Is(n) => one(n as u64),
         Number::No(r) => refused(r),
     }
 }
 
 #[no_mangle]
 pub extern "C" fn bog_version(packet: &[u8]) -> Said
-    ensures { λ s. ⌜ s ≡ saidOf (number (field (now (packet .entry)) (versionOf (now (packet .entry))))) ⌝ }
+    ensures { λ s. ⌜ Answers (number (field (now (packet .entry)) (versionOf (now (packet .entry))))) s ⌝ }
 {
     said_number(utils::parse_version(packet))
 }
 
 #[no_mangle]
 pub extern "C" fn bog_padding_bit(packet: &[u8]) -> Said
-    ensures { λ s. ⌜ s ≡ saidOf (number (field (now (packet .entry)) (paddingBitOf (now (packet .entry))))) ⌝ }
+    ensures { λ s. ⌜ Answers (number (field (now (packet .entry)) (paddingBitOf (now (packet .entry))))) s ⌝ }
 {
     said_number(utils::parse_padding_bit(packet))
 }
 
 #[no_mangle]
 pub extern "C" fn bog_count(packet: &[u8]) -> Said
-    ensures { λ s. ⌜ s ≡ saidOf (number (field (now (packet .entry)) (countOf (now (packet .entry))))) ⌝ }
+    ensures { λ s. ⌜ Answers (number (field (now (packet .entry)) (countOf (now (packet .entry))))) s ⌝ }
 {
     said_number(utils::parse_count(packet))
 }
 
 #[no_mangle]
 pub extern "C" fn bog_packet_type(packet: &[u8]) -> Said
-    ensures { λ s. ⌜ s ≡ saidOf (number (field (now (packet .entry)) (typeOf (now (packet .entry))))) ⌝ }
+    ensures { λ s. ⌜ Answers (number (field (now (packet .entry)) (typeOf (now (packet .entry))))) s ⌝ }
 {
     said_number(utils::parse_packet_type(packet))
 }
 
 #[no_mangle]
 pub extern "C" fn bog_length(packet: &[u8]) -> Said
-    ensures { λ s. ⌜ s ≡ saidOf (number (field (now (packet .entry)) (lengthOf (now (packet .entry))))) ⌝ }
+    ensures { λ s. ⌜ Answers (number (field (now (packet .entry)) (lengthOf (now (packet .entry))))) s ⌝ }
 {
     said_number(utils::parse_length(packet))
 }
 
 #[no_mangle]
 pub extern "C" fn bog_padding(packet: &[u8]) -> Said
-    ensures { λ s. ⌜ s ≡ saidOf (padding (paddingByte (now (packet .entry)))) ⌝ }
+    ensures { λ s. ⌜ Answers (padding (paddingByte (now (packet .entry)))) s ⌝ }
 {
     match utils::parse_padding(packet) {
-        Padded::Clear => Said {
-            number: 0,
-            values: [0, 0, 0, 0, 0],
-        },
-        Padded::Byte(byte) => Said {
-            number: 0,
-            values: [1, byte as u64, 0, 0, 0],
-        },
+        Padded::Clear => one(0),
+        Padded::Byte(byte) => two(1, byte as u64),
         Padded::No(r) => refused(r),
     }
 }
 
 #[no_mangle]
 pub extern "C" fn bog_check_packet(packet: &[u8], least: u64, packet_type: u8) -> Said
-    ensures { λ s. ⌜ s ≡ saidOf (nothing (checkPacket (now (packet .entry)) least «packet_type»)) ⌝ }
+    ensures { λ s. ⌜ Answers (nothing (checkPacket (now (packet .entry)) least «packet_type»)) s ⌝ }
 {
     said_checked(utils::check_packet(packet, least as usize, packet_type))
 }
 
 #[no_mangle]
 pub extern "C" fn bog_compound_parse(bytes: &[u8]) -> Said
-    ensures { λ s. ⌜ s ≡ saidOf (nothing (firstPass (now (bytes .entry)))) ⌝ }
+    ensures { λ s. ⌜ Answers (nothing (firstPass (now (bytes .entry)))) s ⌝ }
 {
     said_checked(compound::parse(bytes))
 }
 
 #[no_mangle]
 pub extern "C" fn bog_unknown_parse(packet: &[u8]) -> Said
-    ensures { λ s. ⌜ s ≡ saidOf (nothing (unknown (now (packet .entry)))) ⌝ }
+    ensures { λ s. ⌜ Answers (nothing (unknown (now (packet .entry)))) s ⌝ }
 {
-    said_checked(compound::unknown_parse(packet))
+    said_checked(unknown::parse(packet))
 }
 
 #[no_mangle]
 pub extern "C" fn bog_walk_step(bytes: &[u8], offset: u64) -> Said
-    ensures { λ s. ⌜ s ≡ saidOf (walk offset (walkStep (now (bytes .entry)) offset)) ⌝ }
+    ensures { λ s. ⌜ Answers (walk (walkStep (now (bytes .entry)) offset)) s ⌝ }
 {
     let at = offset as usize;
     let walked = compound::walk_step(bytes, at);
     let next = walked.next;
     let found = walked.found;
     match found {
-        Found::Packet => Said {
-            number: 0,
-            values: [0, next as u64, at as u64, (next - at) as u64, 0],
-        },
-        Found::Over => Said {
-            number: 0,
-            values: [1, next as u64, 0, 0, 0],
-        },
+        Found::Packet(p) => four(0, next as u64, p.start as u64, p.length as u64),
+        Found::Over => two(1, next as u64),
         Found::No(r) => refused(r),
     }
 }
@@ -203,16 +224,13 @@ pub extern "C" fn bog_twcc_read(block: &[u8], list: &mut [i32]) -> Said
             let header = listed.header;
             let base = header.base;
             let time = header.time;
-            Said {
-                number: 0,
-                values: [
-                    base.0 as u64,
-                    header.statuses as u64,
-                    time.0 as u64,
-                    header.feedback as u64,
-                    count as u64,
-                ],
-            }
+            five(
+                base.0 as u64,
+                header.statuses as u64,
+                time.0 as u64,
+                header.feedback as u64,
+                count as u64,
+            )
         }
         Reading::No(r) => refused(r),
     }
@@ -220,25 +238,19 @@ pub extern "C" fn bog_twcc_read(block: &[u8], list: &mut [i32]) -> Said
 
 #[no_mangle]
 pub extern "C" fn bog_arrival(time: u32, delta: i16) -> Said
-    ensures { λ s. ⌜ s ≡ saidOf (signed (arrivalOf time delta)) ⌝ }
+    ensures { λ s. ⌜ Answers (signed (arrivalOf time delta)) s ⌝ }
 {
     match arrival::arrival(RefTime(time), delta) {
-        Arrived::At(tick) => Said {
-            number: 0,
-            values: [arrival::bits(tick), 0, 0, 0, 0],
-        },
+        Arrived::At(tick) => one(arrival::bits(tick)),
         Arrived::No(r) => refused(r),
     }
 }
 
 fn said_written(answer: Written) -> Said
-    ensures { λ s. ⌜ s ≡ saidOf (block (saidWritten answer)) ⌝ }
+    ensures { λ s. ⌜ Answers (block (saidWritten answer)) s ⌝ }
 {
     match answer {
-        Written::Block(used) => Said {
-            number: 0,
-            values: [used.bytes as u64, used.taken as u64, 0, 0, 0],
-        },
+        Written::Block(used) => two(used.bytes as u64, used.taken as u64),
         Written::No(r) => refused(r),
     }
 }

@@ -1,52 +1,72 @@
--- The fixed examples, as one table of claims about the definitions. The program `examples` runs them all.
+-- The fixed examples of docs/RULES.md that are marked P, in its order: one table, settled by one claim about the definitions.
 use Prim.Native.Nat.{ℕ}
-use mathlib.Core.List.{List, [], _∷_, map}
 use mathlib.Core.Path.{_≡_, refl}
-use Rattle.refusal.specs.Outcome.{gave, refuse}
-use Rattle.nack.specs.Examples.{Fixed, fixed}
-use Rattle.twcc.proofs.Examples.{read, examples-read, table as blocks}
-use Rattle.twcc_plan.proofs.WritingExamples.{write, examples-written, table as lists}
-use Rattle.compound.specs.Pass.{firstTurn, passFrom, firstPass}
-use Rattle.compound.specs.Walk.{step, packet, over, walkStep}
+use mathlib.Core.List.{List, [], _∷_, _++_, map}
+use mathlib.Core.Option.{Option, none, some}
+use lib.IntN.{ℤ, pos}
+use lib.ListN.{replicate}
+use Rattle.refusal.specs.Outcome.{Outcome, gave, refuse}
+use Rattle.compound.specs.Pass.{firstPass}
+use Rattle.compound.specs.Walk.{Step, step, packet, walkStep}
+use Rattle.nack_store.specs.Bits.{addedAll, emptyStore}
+use Rattle.nack.specs.Entries.{nackBytes, readNack}
+use Rattle.twcc.specs.Words.{notReceived, truncated, reserved}
+use Rattle.twcc.specs.Block.{baseOf, listed}
+use Rattle.twcc_plan.specs.Block.{takenOf, blockBytes}
 
--- 80 CB 00 00 40 CB 00 00: the second packet's version is 1
-abbrev secondVersion1 : List ℕ
-secondVersion1 = 128 ∷ 203 ∷ 0 ∷ 0 ∷ 64 ∷ 203 ∷ 0 ∷ 0 ∷ []
+-- a question, and behind it its answer
+pub data Row : Type 0 where
+  -- a limit and a list, for base 1, time 0 and feedback count 0; the entries taken and the block's bytes
+  writeBlock : Option ℕ → List ℤ → ℕ → List ℕ → Row
+  -- a block's bytes; its base and its words
+  readBlock : List ℕ → ℕ → List ℤ → Row
+  -- the numbers added to an empty store of 8,192 bytes; the bytes that the store is written as
+  writeNack : List ℕ → List ℕ → Row
+  -- bytes; the numbers that they name
+  readNumbers : List ℕ → List ℕ → Row
+  -- bytes; the first pass's verdict
+  pass : List ℕ → Outcome Unit → Row
+  -- bytes and an offset; what the walk's step meets, and where it goes on
+  walk : List ℕ → ℕ → Step → Row
 
-pub record Examples : Type 0 where
-  -- ---- compounds
-  -- the first pass looks at the first version only; the walk gives one packet, then 2 with 1
-  pub second-version-passes : firstPass secondVersion1 ≡ gave tt
-  pub second-version-first : walkStep secondVersion1 0 ≡ step (gave packet) 4
-  pub second-version-then : walkStep secondVersion1 4 ≡ step (refuse 2 (1 ∷ [])) 8
-  pub second-version-over : walkStep secondVersion1 8 ≡ step (gave over) 8
-  -- A0 CB 00 00 80 CB 00 00: padding on a packet that isn't last
-  pub padding-in-the-middle : firstPass (160 ∷ 203 ∷ 0 ∷ 0 ∷ 128 ∷ 203 ∷ 0 ∷ 0 ∷ []) ≡ refuse 5 []
-  -- 80 CB 00 01: a packet of eight bytes cut at four
-  pub cut : firstPass (128 ∷ 203 ∷ 0 ∷ 1 ∷ []) ≡ refuse 1 (8 ∷ 4 ∷ [])
-  -- 80 CB 00 00 80: a header cut at its first byte
-  pub cut-header : firstPass (128 ∷ 203 ∷ 0 ∷ 0 ∷ 128 ∷ []) ≡ refuse 1 (8 ∷ 5 ∷ [])
-  -- 00 CB 00 01: the version comes before the length
-  pub version-first : firstPass (0 ∷ 203 ∷ 0 ∷ 1 ∷ []) ≡ refuse 2 (0 ∷ [])
-  -- ---- generic NACK
-  pub nack : Fixed
-  -- ---- TWCC: each block reads as its words, each list is written as its block
-  pub reading : map read blocks ≡ blocks
-  pub writing : map write lists ≡ lists
+-- a row with its question kept and its answer as the definitions give it
+unfoldable pub settled : Row → Row
+settled (writeBlock limit list taken block) = writeBlock limit list (takenOf limit list) (blockBytes 1 0 0 limit list)
+settled (readBlock block base words) = readBlock block (baseOf block) (listed block)
+settled (writeNack numbers bytes) = writeNack numbers (nackBytes (addedAll emptyStore numbers))
+settled (readNumbers bytes numbers) = readNumbers bytes (readNack bytes)
+settled (pass bytes verdict) = pass bytes (firstPass bytes)
+settled (walk bytes at met) = walk bytes at (walkStep bytes at)
 
-pub examples : Examples
-unfolding firstTurn passFrom firstPass walkStep
-examples =
-    record {
-      second-version-passes = refl;
-      second-version-first = refl;
-      second-version-then = refl;
-      second-version-over = refl;
-      padding-in-the-middle = refl;
-      cut = refl;
-      cut-header = refl;
-      version-first = refl;
-      nack = fixed;
-      reading = examples-read;
-      writing = examples-written;
-    }
+unfoldable pub table : List Row
+table =
+    writeBlock none [] 0 (0x00 ∷ 0x01 ∷ 0x00 ∷ 0x00 ∷ 0x00 ∷ 0x00 ∷ 0x00 ∷ 0x00 ∷ [])
+    ∷ writeBlock none (replicate 7 notReceived) 7
+    (0x00 ∷ 0x01 ∷ 0x00 ∷ 0x07 ∷ 0x00 ∷ 0x00 ∷ 0x00 ∷ 0x00 ∷ 0xC0 ∷ 0x00 ∷ 0x00 ∷ 0x00 ∷ [])
+    ∷ writeBlock none (replicate 8 notReceived) 8
+    (0x00 ∷ 0x01 ∷ 0x00 ∷ 0x08 ∷ 0x00 ∷ 0x00 ∷ 0x00 ∷ 0x00 ∷ 0x00 ∷ 0x08 ∷ 0x00 ∷ 0x00 ∷ [])
+    ∷ writeBlock none (replicate 8 notReceived ++ pos 4 ∷ []) 9
+    (0x00 ∷ 0x01 ∷ 0x00 ∷ 0x09 ∷ 0x00 ∷ 0x00 ∷ 0x00 ∷ 0x00 ∷ 0x80 ∷ 0x20 ∷ 0x04 ∷ 0x00 ∷ [])
+    ∷ writeBlock none (replicate 8 notReceived ++ pos 256 ∷ []) 9
+    (0x00 ∷ 0x01 ∷ 0x00 ∷ 0x09 ∷ 0x00 ∷ 0x00 ∷ 0x00 ∷ 0x00 ∷ 0x00 ∷ 0x08 ∷ 0xE0 ∷ 0x00 ∷ 0x01 ∷ 0x00 ∷ 0x00 ∷ 0x00 ∷ [])
+    ∷ writeBlock none (pos 255 ∷ []) 1 (0x00 ∷ 0x01 ∷ 0x00 ∷ 0x01 ∷ 0x00 ∷ 0x00 ∷ 0x00 ∷ 0x00 ∷ 0xD0 ∷ 0x00 ∷ 0xFF ∷ 0x00 ∷ [])
+    ∷ writeBlock (some 12) (replicate 9 (pos 0)) 1
+    (0x00 ∷ 0x01 ∷ 0x00 ∷ 0x01 ∷ 0x00 ∷ 0x00 ∷ 0x00 ∷ 0x00 ∷ 0x20 ∷ 0x01 ∷ 0x00 ∷ 0x00 ∷ [])
+    ∷ writeBlock (some 8) (replicate 9 (pos 0)) 0 (0x00 ∷ 0x01 ∷ 0x00 ∷ 0x00 ∷ 0x00 ∷ 0x00 ∷ 0x00 ∷ 0x00 ∷ [])
+    ∷ writeBlock (some 23) (replicate 7 (pos 256)) 0 (0x00 ∷ 0x01 ∷ 0x00 ∷ 0x00 ∷ 0x00 ∷ 0x00 ∷ 0x00 ∷ 0x00 ∷ [])
+    ∷ writeBlock (some 24) (replicate 7 (pos 256)) 7
+    (0x00 ∷ 0x01 ∷ 0x00 ∷ 0x07 ∷ 0x00 ∷ 0x00 ∷ 0x00 ∷ 0x00 ∷ 0xEA ∷ 0xAA
+    ∷ 0x01 ∷ 0x00 ∷ 0x01 ∷ 0x00 ∷ 0x01 ∷ 0x00 ∷ 0x01 ∷ 0x00 ∷ 0x01 ∷ 0x00 ∷ 0x01 ∷ 0x00 ∷ 0x01 ∷ 0x00 ∷ [])
+    ∷ readBlock (0x00 ∷ 0x05 ∷ 0x00 ∷ 0x02 ∷ 0x00 ∷ 0x00 ∷ 0x00 ∷ 0x00 ∷ 0xE4 ∷ 0x00 ∷ 0x7F ∷ []) 5 (truncated ∷ truncated ∷ [])
+    ∷ readBlock (0x00 ∷ 0x05 ∷ 0x00 ∷ 0x02 ∷ 0x00 ∷ 0x00 ∷ 0x00 ∷ 0x00 ∷ 0xF4 ∷ 0x00 ∷ 0x09 ∷ []) 5 (reserved ∷ pos 9 ∷ [])
+    ∷ writeNack (0 ∷ 16 ∷ []) (0x00 ∷ 0x00 ∷ 0x80 ∷ 0x00 ∷ [])
+    ∷ writeNack (0 ∷ 17 ∷ []) (0x00 ∷ 0x00 ∷ 0x00 ∷ 0x00 ∷ 0x00 ∷ 0x11 ∷ 0x00 ∷ 0x00 ∷ [])
+    ∷ readNumbers (0xFF ∷ 0xFF ∷ 0x00 ∷ 0x01 ∷ []) (65535 ∷ 0 ∷ [])
+    ∷ pass (0x80 ∷ 0xCB ∷ 0x00 ∷ 0x00 ∷ 0x40 ∷ 0xCB ∷ 0x00 ∷ 0x00 ∷ []) (gave tt)
+    ∷ walk (0x80 ∷ 0xCB ∷ 0x00 ∷ 0x00 ∷ 0x40 ∷ 0xCB ∷ 0x00 ∷ 0x00 ∷ []) 0 (step (gave (packet (record { start = 0; length = 4 }))) 4)
+    ∷ walk (0x80 ∷ 0xCB ∷ 0x00 ∷ 0x00 ∷ 0x40 ∷ 0xCB ∷ 0x00 ∷ 0x00 ∷ []) 4 (step (refuse 2 (1 ∷ [])) 8)
+    ∷ []
+
+-- the claim
+abbrev pub Settled : Type 0
+Settled = map settled table ≡ table

@@ -1,1 +1,1 @@
-pub mod Unique
+pub mod Seq

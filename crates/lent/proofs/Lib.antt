@@ -1,1 +1,4 @@
 pub mod Storing
+pub mod Laws
+pub mod Unique
+pub mod Filling

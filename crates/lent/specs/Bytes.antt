@@ -1,11 +1,7 @@
 -- The bytes that the stores put.
-use Prim.Native.Nat.{ℕ, zero, suc, _-_, _/_, _%_}
+use Prim.Native.Nat.{ℕ, zero, suc, _-_}
 use mathlib.Core.List.{List, [], _∷_}
 use Prim.Native.Nat.{min}
-
--- a 16-bit number, the high byte first
-abbrev pub be16Bytes : ℕ → List ℕ
-be16Bytes number = number / 256 ∷ number % 256 ∷ []
 
 unfoldable pub zeroBytes : ℕ → List ℕ
 zeroBytes zero = []

@@ -1,4 +1,6 @@
 pub mod Bytes
+pub mod Fills
 pub mod After
-pub mod Laws
-pub mod Unique
+pub mod Room
+pub mod Store
+pub mod Part

@@ -4,15 +4,16 @@ ghost use mathlib.Core.Path.{_≡_};
 ghost use mathlib.Core.List.{[], _∷_};
 ghost use Prim.Native.Nat.{_-_, _≤_};
 ghost use lib.ListN.{length, take};
-ghost use lib.Seq.{sets};
-ghost use Rattle.lent.specs.Bytes.{be16Bytes, zeroBytes, fitting};
+ghost use Rattle.octets.specs.Big.{beBytes};
+ghost use Rattle.lent.specs.Bytes.{zeroBytes, fitting};
+ghost use Rattle.lent.specs.Store.{Stored};
 
-// The longest packet: what a copy may hold in a local array on its way.
-const LONGEST: usize = 262144;
+// What a copy may hold in a local array on its way: as much as the longest packet.
+const AT_ONCE: usize = 262144;
 
 // One byte.
 pub fn put(out: &mut [u8], at: usize, byte: u8)
-    ensures { λ _. ⌜ now (out .exit) ≡ sets (now (out .entry)) at (byte ∷ []) ⌝ }
+    ensures { λ _. ⌜ Stored (now (out .entry)) at (byte ∷ []) (now (out .exit)) ⌝ }
 {
     if at < out.len() {
         out[at] = byte;
@@ -21,7 +22,7 @@ pub fn put(out: &mut [u8], at: usize, byte: u8)
 
 // A 16-bit number, the high byte first.
 pub fn put16(out: &mut [u8], at: usize, number: u16)
-    ensures { λ _. ⌜ now (out .exit) ≡ sets (now (out .entry)) at (be16Bytes number) ⌝ }
+    ensures { λ _. ⌜ Stored (now (out .entry)) at (beBytes 2 number) (now (out .exit)) ⌝ }
 {
     if at < out.len() {
         put(out, at, (number / 256) as u8);
@@ -44,7 +45,7 @@ fn fit(room: usize, at: usize, bytes: usize) -> usize
 
 // So many zeros.
 pub fn zeros(out: &mut [u8], at: usize, count: usize)
-    ensures { λ _. ⌜ now (out .exit) ≡ sets (now (out .entry)) at (zeroBytes count) ⌝ }
+    ensures { λ _. ⌜ Stored (now (out .entry)) at (zeroBytes count) (now (out .exit)) ⌝ }
 {
     let n = fit(out.len(), at, count);
     let mut j = 0;
@@ -57,7 +58,7 @@ pub fn zeros(out: &mut [u8], at: usize, count: usize)
 // The first n bytes of `from`, which fit.
 fn hand_out(from: &[u8], n: usize, out: &mut [u8], at: usize)
     requires { ⌜ (n ≤ length (now from)) × (n ≤ length (now out) - at) ⌝ }
-    ensures { λ _. ⌜ now (out .exit) ≡ sets (now (out .entry)) at (take n (now (from .entry))) ⌝ }
+    ensures { λ _. ⌜ Stored (now (out .entry)) at (take n (now (from .entry))) (now (out .exit)) ⌝ }
 {
     let mut j = 0;
     while j < n {
@@ -70,19 +71,19 @@ fn hand_out(from: &[u8], n: usize, out: &mut [u8], at: usize)
 // moves the bytes by one `memmove`.
 fn hand_through(from: &[u8], n: usize, out: &mut [u8], at: usize)
     requires { ⌜ (n ≤ 262144) × (n ≤ length (now from)) × (n ≤ length (now out) - at) ⌝ }
-    ensures { λ _. ⌜ now (out .exit) ≡ sets (now (out .entry)) at (take n (now (from .entry))) ⌝ }
+    ensures { λ _. ⌜ Stored (now (out .entry)) at (take n (now (from .entry))) (now (out .exit)) ⌝ }
 {
-    let mut between = [0u8; LONGEST];
+    let mut between = [0u8; AT_ONCE];
     hand_out(from, n, &mut between, 0);
     hand_out(&between, n, out, at);
 }
 
 // All bytes of `from`.
 pub fn copy(out: &mut [u8], at: usize, from: &[u8])
-    ensures { λ _. ⌜ now (out .exit) ≡ sets (now (out .entry)) at (now (from .entry)) ⌝ }
+    ensures { λ _. ⌜ Stored (now (out .entry)) at (now (from .entry)) (now (out .exit)) ⌝ }
 {
     let n = fit(out.len(), at, from.len());
-    if n <= LONGEST {
+    if n <= AT_ONCE {
         hand_through(from, n, out, at);
         return;
     }

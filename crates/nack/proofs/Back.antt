@@ -8,9 +8,10 @@ use native.Mathlib.Nat.{pow-suc}
 use lib.Pow.{pow-mono, pow-pos}
 use lib.ListN.{length}
 use Rattle.nack_store.specs.Bits.{storeSize, numbersOf, addedAll, emptyStore}
+use Rattle.nack_store.specs.Sets.{Rising, none, more, SetOf, AllBelow, Sorted}
 use Rattle.nack_store.proofs.Sets.{by-le}
-use Rattle.nack_store.proofs.Numbers.{Rising, none, more, SetOf, Below, Sorted, numbers-rising, numbers-set, added-sorted, length-added, length-empty, sorted-unique, rising-sorted, rising-below}
-use Rattle.nack.specs.Entries.{Entry, entry, masked, named, allNamed, entriesIn, readNack, grow, entriesOf, bytesOf, nackOf, nackBytes}
+use Rattle.nack_store.proofs.Numbers.{numbers-rising, numbers-set, added-sorted, length-added, length-empty, sorted-unique, rising-sorted, rising-below}
+use Rattle.nack.specs.Entries.{Entry, entry, masked, named, allNamed, entriesIn, readNack, grow, entriesOf, allBytes, nackOf, nackBytes}
 use Rattle.nack.proofs.Masks.{masked-none, masked-top}
 use Rattle.nack.proofs.Opens.{grow-in, grow-out}
 
@@ -45,12 +46,12 @@ entries-back (n ∷ ns) (more from below rises) =
     let one : 0 < 2 ^ (suc n - suc n) = pow-pos (suc n - suc n) in
     rw (grown-back n 0 (suc n) ns rises (omega arith) one, masked-none n 16)
 
-bytes-back : (es : List Entry) → entriesIn (bytesOf es) ≡ es
-unfolding entriesIn bytesOf
+bytes-back : (es : List Entry) → entriesIn (allBytes es) ≡ es
+unfolding entriesIn allBytes
 bytes-back [] = refl
 bytes-back (entry n mask ∷ es) =
-    let number : n / 256 * 256 + n % 256 ≡ n = omega arith in
-    let bits : mask / 256 * 256 + mask % 256 ≡ mask = omega arith in
+    let number : 256 * (n / 256) + n % 256 ≡ n = omega arith in
+    let bits : 256 * (mask / 256) + mask % 256 ≡ mask = omega arith in
     rw (number, bits, bytes-back es)
 
 -- the bytes of an ascending list read as it
@@ -68,16 +69,16 @@ pub set-back : (s : List ℕ) → length s ≡ storeSize → SetOf s (readNack (
 set-back s size = subst (λ (l : List ℕ). SetOf s l) (sym (store-back s size)) (numbers-set s size)
 
 -- a list that is added to an empty store is written as its sorted numbers are
-pub added-bytes : (ns sorted : List ℕ) → Below 65536 ns → Sorted ns sorted → nackBytes (addedAll emptyStore ns) ≡ nackOf sorted
+pub added-bytes : (ns sorted : List ℕ) → AllBelow 65536 ns → Sorted ns sorted → nackBytes (addedAll emptyStore ns) ≡ nackOf sorted
 unfolding nackBytes
 added-bytes ns sorted below s = ap nackOf (sorted-unique (added-sorted ns below) s)
 
 -- and read back as them
-pub added-back : (ns : List ℕ) → Below 65536 ns → Sorted ns (readNack (nackBytes (addedAll emptyStore ns)))
+pub added-back : (ns : List ℕ) → AllBelow 65536 ns → Sorted ns (readNack (nackBytes (addedAll emptyStore ns)))
 added-back ns below =
     let size : length (addedAll emptyStore ns) ≡ storeSize = length-added emptyStore ns ∙ length-empty in
     subst (λ (l : List ℕ). Sorted ns l) (sym (store-back (addedAll emptyStore ns) size)) (added-sorted ns below)
 
--- an ascending list is its own sorted list, so that specs/Examples speaks of stores too
+-- an ascending list is its own sorted list
 pub rising-bytes : (ns : List ℕ) → Rising 65536 0 ns → nackBytes (addedAll emptyStore ns) ≡ nackOf ns
 rising-bytes ns rises = added-bytes ns ns (rising-below ns rises) (rising-sorted ns rises)

@@ -7,7 +7,8 @@ use native.Mathlib.Nat.{pow-suc, pow-zero, mul-zero, add-zero, mul-add, mul-asso
 use borrow.Author.Tests.{le-leb, lt-leb}
 use lib.ListN.{length}
 use Rattle.nack_store.specs.Bits.{bitOf, members, window, numbersOf}
-use Rattle.nack_store.proofs.Sets.{Within, left-skip, left-take, left-none, window-out, members-skip, members-take, by-bit, by-le}
+use Rattle.nack_store.specs.Sets.{BitsBelow}
+use Rattle.nack_store.proofs.Sets.{left-skip, left-take, left-none, window-out, members-skip, members-take, by-bit, by-le}
 use Rattle.nack_store.proofs.Bytes.{within}
 use Rattle.nack.specs.Entries.{entry, grow, entriesOf}
 
@@ -20,7 +21,7 @@ unfolding grow
 grow-out n mask k ks far = rw (lt-leb k (n + 16) far)
 
 -- past the sixteen, an open entry stands as it is
-grow-far : (f : ℕ → ℕ) (end n mask at k : ℕ) → Within f end → n + 16 < at → grow n mask (members f at k) ≡ entry n mask ∷ entriesOf (members f at k)
+grow-far : (f : ℕ → ℕ) (end n mask at k : ℕ) → BitsBelow f end → n + 16 < at → grow n mask (members f at k) ≡ entry n mask ∷ entriesOf (members f at k)
 unfolding members grow entriesOf
 grow-far f end n mask at zero set far = refl
 grow-far f end n mask at (suc k) set far =
@@ -37,7 +38,7 @@ abbrev Grown : (ℕ → ℕ) → ℕ → ℕ → ℕ → ℕ → ℕ → ℕ →
 Grown f end n mask at i j =
     grow n mask (members f at (end - at)) ≡ grow n (mask + 2 ^ i * window f at j) (members f (n + 17) (end - (n + 17)))
 
-grown-none : (f : ℕ → ℕ) (end n mask at i j : ℕ) → Within f end → at ≤ n + 17 → end ≤ at → Grown f end n mask at i j
+grown-none : (f : ℕ → ℕ) (end n mask at i j : ℕ) → BitsBelow f end → at ≤ n + 17 → end ≤ at → Grown f end n mask at i j
 grown-none f end n mask at i j set near past =
     let past' : end ≤ n + 17 = omega arith in
     rw (window-out f at j end set past, left-none f at end past, left-none f (n + 17) end past', mul-zero, add-zero)
@@ -54,7 +55,7 @@ grown-take f end n mask at i j place few below there rest =
     let near : at ≤ n + 16 = omega arith in
     rw (left-take f at end below there, grow-in n mask at _ near, digit, there, digit-in, mul-one, ← pow-suc, ← add-assoc) rest
 
-grow-window : (f : ℕ → ℕ) (end n mask at i j : ℕ) → Within f end → at ≡ suc n + i → i + j ≡ 16 → Grown f end n mask at i j
+grow-window : (f : ℕ → ℕ) (end n mask at i j : ℕ) → BitsBelow f end → at ≡ suc n + i → i + j ≡ 16 → Grown f end n mask at i j
 unfolding window
 grow-window f end n mask at i zero set place all =
     let last : at ≡ n + 17 = omega arith in
@@ -67,7 +68,7 @@ grow-window f end n mask at i (suc j) set place all =
     (λ there. grown-take f end n mask at i j place (omega arith) below there (grow-window f end n (mask + 2 ^ i) (suc at) (suc i) j set (omega arith) (omega arith))))
 
 -- what a number that is there opens
-pub opened : (f : ℕ → ℕ) (end n : ℕ) → Within f end → n < end → f n ≡ 1
+pub opened : (f : ℕ → ℕ) (end n : ℕ) → BitsBelow f end → n < end → f n ≡ 1
     → entriesOf (members f n (end - n)) ≡ entry n (window f (suc n) 16) ∷ entriesOf (members f (n + 17) (end - (n + 17)))
 unfolding entriesOf
 opened f end n set below there =
@@ -76,7 +77,7 @@ opened f end n set below there =
     ∙ (rw (pow-zero, one-mul, zero-add) (grow-far f end n (window f (suc n) 16) (n + 17) (end - (n + 17)) set (omega arith))))
 
 -- an open entry and k numbers more: that entry, and one for each 17 past those that it covers
-open-few : (f : ℕ → ℕ) (end n mask at k : ℕ) → Within f end → n < at → length (grow n mask (members f at k)) * 17 ≤ 33 + (k - (n + 17 - at))
+open-few : (f : ℕ → ℕ) (end n mask at k : ℕ) → BitsBelow f end → n < at → length (grow n mask (members f at k)) * 17 ≤ 33 + (k - (n + 17 - at))
 unfolding members grow
 open-few f end n mask at zero set above = omega arith
 open-few f end n mask at (suc k) set above =
@@ -87,7 +88,7 @@ open-few f end n mask at (suc k) set above =
     (λ near. rw (grow-in n mask at (members f (suc at) k) near) (omega (arith, open-few f end n (mask + 2 ^ (at - suc n)) (suc at) k set (omega arith))))
     (λ far. rw (grow-out n mask at (members f (suc at) k) far) (omega (arith, open-few f end at 0 (suc at) k set (omega arith))))))
 
-entries-few : (f : ℕ → ℕ) (end at k : ℕ) → Within f end → length (entriesOf (members f at k)) * 17 ≤ k + 16
+entries-few : (f : ℕ → ℕ) (end at k : ℕ) → BitsBelow f end → length (entriesOf (members f at k)) * 17 ≤ k + 16
 unfolding members entriesOf
 entries-few f end at zero set = omega arith
 entries-few f end at (suc k) set =

@@ -1,9 +1,10 @@
 -- Generic NACK entries, RFC 4585 section 6.2.1: a packet's number, and a mask whose bit i, counted from 1 at the least, names the
 -- packet i numbers later, modulo 65,536. Which entries name a set the RFC leaves open; from `grow` on docs/RULES.md decides.
-use Prim.Native.Nat.{ℕ, zero, suc, _+_, _*_, _-_, _/_, _%_, _^_}
+use Prim.Native.Nat.{ℕ, zero, suc, _+_, _-_, _/_, _%_, _^_}
 use mathlib.Core.List.{List, [], _∷_, _++_}
 use mathlib.Core.Bool.{cond}
 use lib.Dec.{leb}
+use Rattle.octets.specs.Big.{be, beBytes}
 use Rattle.nack_store.specs.Bits.{keep, numbersOf}
 
 pub data Entry : Type 0 where
@@ -33,7 +34,7 @@ entriesIn [] = []
 entriesIn (a ∷ []) = []
 entriesIn (a ∷ b ∷ []) = []
 entriesIn (a ∷ b ∷ c ∷ []) = []
-entriesIn (a ∷ b ∷ c ∷ d ∷ rest) = entry (a * 256 + b) (c * 256 + d) ∷ entriesIn rest
+entriesIn (a ∷ b ∷ c ∷ d ∷ rest) = entry (be 2 (a ∷ b ∷ []) 0) (be 2 (c ∷ d ∷ []) 0) ∷ entriesIn rest
 
 -- what bytes read as
 unfoldable pub readNack : List ℕ → List ℕ
@@ -51,15 +52,15 @@ entriesOf [] = []
 entriesOf (n ∷ ns) = grow n 0 ns
 
 abbrev pub entryBytes : ℕ → ℕ → List ℕ
-entryBytes n mask = n / 256 ∷ n % 256 ∷ mask / 256 ∷ mask % 256 ∷ []
+entryBytes n mask = beBytes 2 n ++ beBytes 2 mask
 
-unfoldable pub bytesOf : List Entry → List ℕ
-bytesOf [] = []
-bytesOf (entry n mask ∷ es) = entryBytes n mask ++ bytesOf es
+unfoldable pub allBytes : List Entry → List ℕ
+allBytes [] = []
+allBytes (entry n mask ∷ es) = entryBytes n mask ++ allBytes es
 
 -- the bytes of an ascending list of numbers; an empty one has none, where the RFC wants an entry
 abbrev pub nackOf : List ℕ → List ℕ
-nackOf ns = bytesOf (entriesOf ns)
+nackOf ns = allBytes (entriesOf ns)
 
 -- the bytes of a store's numbers
 unfoldable pub nackBytes : List ℕ → List ℕ

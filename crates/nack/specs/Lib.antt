@@ -1,4 +1,2 @@
 pub mod Entries
 pub mod Promise
-pub mod Unique
-pub mod Examples

@@ -9,18 +9,15 @@ use lib.Bits.{bitAnd}
 use lib.Count.{ones, trailingZeros}
 use lib.ListN.{length, getD, drop, set, length-drop, length-set, length-append}
 use lib.Seq.{sets, length-sets, drop-cons}
-use Rattle.lent.specs.Laws.{sets-append}
+use Rattle.octets.specs.Big.{be}
+use Rattle.lent.proofs.Laws.{sets-append}
 use Rattle.nack.specs.Entries.{masked, named, allNamed, entriesIn, readNack}
 use Rattle.nack.specs.Promise.{capped}
 use Rattle.nack.proofs.Masks.{length-named, named-few, masked-none, masked-first, masked-full, length-run, and-less}
 
--- the two bytes at a place as a number
-abbrev pub twoAt : List ℕ → ℕ → ℕ
-twoAt bytes at = getD bytes at 0 * 256 + getD bytes (at + 1) 0
-
 -- what the entry at a place names
 abbrev pub namedAt : List ℕ → ℕ → List ℕ
-namedAt bytes at = named (twoAt bytes at) (twoAt bytes (at + 2))
+namedAt bytes at = named (be 2 bytes at) (be 2 bytes (at + 2))
 
 drop-four : (l : List ℕ) (i : ℕ) → i + 4 ≤ length l → drop i l ≡ getD l i 0 ∷ getD l (i + 1) 0 ∷ getD l (i + 2) 0 ∷ getD l (i + 3) 0 ∷ drop (i + 4) l
 drop-four l i more =
@@ -51,7 +48,7 @@ read-few (a ∷ []) = omega arith
 read-few (a ∷ b ∷ []) = omega arith
 read-few (a ∷ b ∷ c ∷ []) = omega arith
 read-few (a ∷ b ∷ c ∷ d ∷ rest) =
-    simp length-append (omega (arith, named-few (a * 256 + b) (c * 256 + d), read-few rest))
+    simp length-append (omega (arith, named-few (256 * a + b) (256 * c + d), read-few rest))
 
 pub read-fits : (bytes list : List ℕ) → length bytes / 4 ≤ length list / 17 → length (readNack bytes) ≤ length list
 read-fits bytes list roomy = omega (arith, read-few bytes)
@@ -65,12 +62,12 @@ pub record Tally (bytes : List ℕ) (listed at : ℕ) : Type 0 where
 pub tally-start : (bytes : List ℕ) → Tally bytes 0 0
 tally-start bytes = record { within = omega arith; top = omega arith; sum = rw zero-add }
 
-pub tally-turn : {bytes : List ℕ} {listed at : ℕ} (mask count sum : ℕ) → at + 4 ≤ length bytes → mask ≡ twoAt bytes (at + 2) → mask < 65536 → count ≡ 1 + ones mask
+pub tally-turn : {bytes : List ℕ} {listed at : ℕ} (mask count sum : ℕ) → at + 4 ≤ length bytes → mask ≡ be 2 bytes (at + 2) → mask < 65536 → count ≡ 1 + ones mask
     → sum ≡ capped (listed + count) → Tally bytes listed at → Tally bytes sum (at + 4)
 tally-turn {bytes} {listed} {at} mask count sum more read small counted added t =
     let rest = ap length (read-four bytes at more) in
     let both = length-append (namedAt bytes at) (readNack (drop (at + 4) bytes)) in
-    let this : length (namedAt bytes at) ≡ count = ap (λ (m : ℕ). length (named (twoAt bytes at) m)) (sym read) ∙ length-named (twoAt bytes at) mask small ∙ sym counted in
+    let this : length (namedAt bytes at) ≡ count = ap (λ (m : ℕ). length (named (be 2 bytes at) m)) (sym read) ∙ length-named (be 2 bytes at) mask small ∙ sym counted in
     record { within = more; top = omega arith; sum = omega (arith, t .sum, rest, both, this) }
 
 pub tally-over : {bytes : List ℕ} {listed at : ℕ} → length bytes - at < 4 → Tally bytes listed at → listed ≡ capped (length (readNack bytes))
@@ -133,7 +130,7 @@ pub record Listing (bytes list₀ list : List ℕ) (place at : ℕ) : Type 0 whe
 pub listing-start : (bytes list : List ℕ) → length (readNack bytes) ≤ length list → Listing bytes list list 0 0
 listing-start bytes list fits = record { within = omega arith; numbers = refl; same = refl; end = zero-add _; room = fits }
 
-module _ {bytes list₀ list : List ℕ} {place at : ℕ} (n mask : ℕ) (more : at + 4 ≤ length bytes) (number : n ≡ twoAt bytes at) (named-too : mask ≡ twoAt bytes (at + 2)) (l : Listing bytes list₀ list place at) where
+module _ {bytes list₀ list : List ℕ} {place at : ℕ} (n mask : ℕ) (more : at + 4 ≤ length bytes) (number : n ≡ be 2 bytes at) (named-too : mask ≡ be 2 bytes (at + 2)) (l : Listing bytes list₀ list place at) where
   pub listing-room : place + length (named n mask) ≤ length list
   listing-room =
       rw (number, named-too)

@@ -3,26 +3,21 @@ use kinds::Seq;
 use refusal::Number;
 use refusal::Refusal;
 ghost use mathlib.Core.Path.{_≡_};
-ghost use Prim.Native.Nat.{_+_, _*_, _<_, _≤_};
+ghost use Prim.Native.Nat.{_+_, _<_, _≤_};
 ghost use lib.Count.{ones};
-ghost use lib.ListN.{length, getD};
+ghost use lib.ListN.{length};
 ghost use lib.Seq.{sets};
+ghost use Rattle.octets.specs.Big.{be};
 ghost use Rattle.nack.specs.Entries.{masked, named, readNack};
 ghost use Rattle.nack.specs.Promise.{capped};
 ghost use Rattle.nack_read.specs.Promise.{Read};
 
-fn wide(byte: u8) -> usize
-    ensures { λ r. ⌜ (r ≡ byte) × (r < 256) ⌝ }
-{
-    byte as usize
-}
-
 // The 16-bit number at a place.
 fn two(bytes: &[u8], at: usize) -> u16
     requires { ⌜ at + 2 ≤ length (now bytes) ⌝ }
-    ensures { λ r. ⌜ (r ≡ getD (now (bytes .entry)) at 0 * 256 + getD (now (bytes .entry)) (at + 1) 0) × (r < 65536) ⌝ }
+    ensures { λ r. ⌜ (r ≡ be 2 (now (bytes .entry)) at) × (r < 65536) ⌝ }
 {
-    (wide(bytes[at]) * 256 + wide(bytes[at + 1])) as u16
+    octets::joined(bytes[at], bytes[at + 1]) as u16
 }
 
 // A sum, at most the largest number.
@@ -112,7 +107,7 @@ pub fn read(bytes: &[u8], list: &mut [u16]) -> Number
     }
     let listed = count_listed(bytes);
     if room < listed {
-        return Number::No(Refusal::Room {
+        return Number::No(Refusal::OutputTooSmall {
             needed: listed,
             present: room,
         });

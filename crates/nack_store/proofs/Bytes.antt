@@ -9,9 +9,10 @@ use mir.Syntax.{w8}
 use lib.Pow.{shl-exact}
 use lib.ListN.{length, getD, List·getD-eq-default}
 use Rattle.nack_store.specs.Bits.{bitOf, withBit, window}
-use Rattle.nack_store.proofs.Sets.{Within, window-digits}
+use Rattle.nack_store.specs.Sets.{BitsBelow}
+use Rattle.nack_store.proofs.Sets.{window-digits}
 
-pub within : (s : List ℕ) → Within (bitOf s) (8 * length s)
+pub within : (s : List ℕ) → BitsBelow (bitOf s) (8 * length s)
 within s = record {
   bit = λ n. omega arith;
   out = λ n past. let none : length s ≤ n / 8 = omega arith in rw (List·getD-eq-default s 0 none, zero-div);

@@ -3,4 +3,5 @@ pub mod Bytes
 pub mod Store
 pub mod Numbers
 pub mod Sizes
-pub mod Counting
+pub mod Tallying
+pub mod Unique

@@ -8,38 +8,18 @@ use native.Mathlib.Omega.{arith}
 use native.Mathlib.Nat.{zero-div}
 use native.Mathlib.Decide.{ℕ-discrete}
 use lib.ListN.{length, length-set}
-use Rattle.lent.specs.Laws.{length-zeroBytes, getD-zeroBytes}
+use Rattle.lent.proofs.Laws.{length-zeroBytes, getD-zeroBytes}
 use Rattle.nack_store.specs.Bits.{storeSize, bitOf, keep, members, numbersOf, added, addedAll, emptyStore}
-use Rattle.nack_store.proofs.Sets.{by-bit, Within, members-skip, members-take}
+use Rattle.nack_store.specs.Sets.{In, Rising, none, more, SetOf, Sorted, AllBelow, BitsBelow}
+use Rattle.nack_store.proofs.Sets.{by-bit, members-skip, members-take}
 use Rattle.nack_store.proofs.Bytes.{within}
 use Rattle.nack_store.proofs.Store.{added-one}
-
--- a number is in a list
-abbrev pub In : ℕ → List ℕ → Type 0
-In m ns = List·Memᴰ m ns
-
--- ascending from `low` on, each number once, below `end`
-pub data Rising (end : ℕ) : ℕ → List ℕ → Type 0 where
-  none : {low : ℕ} → Rising end low []
-  more : {low n : ℕ} {ns : List ℕ} → low ≤ n → n < end → Rising end (suc n) ns → Rising end low (n ∷ ns)
-
--- l is the set of a store: ascending, each number once, and just those whose bit is set
-pub record SetOf (s l : List ℕ) : Type 0 where
-  pub rises : Rising 65536 0 l
-  pub from : (m : ℕ) → In m l → bitOf s m ≡ 1
-  pub to : (m : ℕ) → m < 65536 → bitOf s m ≡ 1 → In m l
-
--- l is ns sorted, without repeats
-pub record Sorted (ns l : List ℕ) : Type 0 where
-  pub rises : Rising 65536 0 l
-  pub from : (m : ℕ) → In m l → In m ns
-  pub to : (m : ℕ) → In m ns → In m l
 
 pub rising-from : (end low n : ℕ) (ns : List ℕ) → low ≤ n → Rising end n ns → Rising end low ns
 rising-from end low n [] h none = none
 rising-from end low n (k ∷ ns) h (more above below rest) = more {low = low} {n = k} (omega arith) below rest
 
-pub members-rising : (f : ℕ → ℕ) (end n k : ℕ) → Within f end → n + k ≤ end → Rising end n (members f n k)
+pub members-rising : (f : ℕ → ℕ) (end n k : ℕ) → BitsBelow f end → n + k ≤ end → Rising end n (members f n k)
 unfolding members
 members-rising f end n zero set h = none
 members-rising f end n (suc k) set h =
@@ -58,7 +38,7 @@ first-or (List·Memᴰ·head e) first rest = first e
 first-or (List·Memᴰ·tail i) first rest = rest i
 
 -- in the list: the bit is set
-members-bit : (f : ℕ → ℕ) (end n k m : ℕ) → Within f end → In m (members f n k) → f m ≡ 1
+members-bit : (f : ℕ → ℕ) (end n k m : ℕ) → BitsBelow f end → In m (members f n k) → f m ≡ 1
 unfolding members
 members-bit f end n zero m set i = elim i [ ]
 members-bit f end n (suc k) m set i =
@@ -125,26 +105,22 @@ sorted-unique {ns} {a} {b} x y =
 pub rising-sorted : (ns : List ℕ) → Rising 65536 0 ns → Sorted ns ns
 rising-sorted ns rises = record { rises = rises; from = λ m i. i; to = λ m i. i }
 
--- every number of a list lies below an end
-abbrev pub Below : ℕ → List ℕ → Type 0
-Below end ns = (m : ℕ) → In m ns → m < end
-
-pub rising-below : (ns : List ℕ) → Rising 65536 0 ns → Below 65536 ns
+pub rising-below : (ns : List ℕ) → Rising 65536 0 ns → AllBelow 65536 ns
 rising-below ns rises m i = rising-high m ns rises i
 
 pub length-added : (s ns : List ℕ) → length (addedAll s ns) ≡ length s
 length-added s [] = refl
 length-added s (n ∷ ns) = length-added (added s n) ns ∙ length-set s (n / 8) _
 
-module _ (s : List ℕ) (n : ℕ) (ns : List ℕ) (below : Below (8 * length s) (n ∷ ns)) where
+module _ (s : List ℕ) (n : ℕ) (ns : List ℕ) (below : AllBelow (8 * length s) (n ∷ ns)) where
   below-first : n < 8 * length s
   below-first = below n (List·Memᴰ·head refl)
 
-  below-rest : Below (8 * length (added s n)) ns
+  below-rest : AllBelow (8 * length (added s n)) ns
   below-rest m i = simp length-set (below m (List·Memᴰ·tail i))
 
 -- what was there stays
-added-kept : (s ns : List ℕ) (m : ℕ) → Below (8 * length s) ns → bitOf s m ≡ 1 → bitOf (addedAll s ns) m ≡ 1
+added-kept : (s ns : List ℕ) (m : ℕ) → AllBelow (8 * length s) ns → bitOf s m ≡ 1 → bitOf (addedAll s ns) m ≡ 1
 added-kept s [] m below there = there
 added-kept s (n ∷ ns) m below there =
     let one = added-one s n (below-first s n ns below) in
@@ -152,14 +128,14 @@ added-kept s (n ∷ ns) m below there =
     (by-cases (ℕ-discrete m n) (λ e. rw e (one .this)) (λ e. one .others m e ∙ there))
 
 -- what is added comes
-added-in : (s ns : List ℕ) (m : ℕ) → Below (8 * length s) ns → In m ns → bitOf (addedAll s ns) m ≡ 1
+added-in : (s ns : List ℕ) (m : ℕ) → AllBelow (8 * length s) ns → In m ns → bitOf (addedAll s ns) m ≡ 1
 added-in s (n ∷ ns) m below (List·Memᴰ·head e) =
     let one = added-one s n (below-first s n ns below) in
     added-kept (added s n) ns m (below-rest s n ns below) (rw e (one .this))
 added-in s (n ∷ ns) m below (List·Memᴰ·tail i) = added-in (added s n) ns m (below-rest s n ns below) i
 
 -- what is there afterwards was added or there
-added-from : (s ns : List ℕ) (m : ℕ) → Below (8 * length s) ns → bitOf s m ≡ 0 → bitOf (addedAll s ns) m ≡ 1 → In m ns
+added-from : (s ns : List ℕ) (m : ℕ) → AllBelow (8 * length s) ns → bitOf s m ≡ 0 → bitOf (addedAll s ns) m ≡ 1 → In m ns
 added-from s [] m below clear there = absurd (omega arith)
 added-from s (n ∷ ns) m below clear there =
     let one = added-one s n (below-first s n ns below) in
@@ -173,11 +149,11 @@ empty-clear : (m : ℕ) → bitOf emptyStore m ≡ 0
 empty-clear m = rw (getD-zeroBytes (m / 8) storeSize, zero-div)
 
 -- the numbers of an empty store to which a list was added
-pub added-sorted : (ns : List ℕ) → Below 65536 ns → Sorted ns (numbersOf (addedAll emptyStore ns))
+pub added-sorted : (ns : List ℕ) → AllBelow 65536 ns → Sorted ns (numbersOf (addedAll emptyStore ns))
 added-sorted ns below =
     let s = addedAll emptyStore ns in
     let size : length s ≡ 8192 = length-added emptyStore ns ∙ length-empty in
-    let fits : Below (8 * length emptyStore) ns = (λ m i. let h = below m i in omega (arith, length-empty)) in
+    let fits : AllBelow (8 * length emptyStore) ns = (λ m i. let h = below m i in omega (arith, length-empty)) in
     record {
       rises = numbers-rising s size;
       from = λ m i. added-from emptyStore ns m fits (empty-clear m) (numbers-bit s m i);

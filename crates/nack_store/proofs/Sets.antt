@@ -11,6 +11,7 @@ use lib.Pow.{pow-pos}
 use lib.Count.{ones, ones-step}
 use lib.ListN.{length, length-append}
 use Rattle.nack_store.specs.Bits.{members, window}
+use Rattle.nack_store.specs.Sets.{BitsBelow}
 
 -- a bit is 0 or 1
 pub by-bit : {X : Type 0} (bit : ℕ) → bit < 2 → (bit ≡ 0 → X) → (bit ≡ 1 → X) → X
@@ -20,11 +21,6 @@ by-bit (suc (suc bit)) two clear there = absurd (omega arith)
 
 pub by-le : {X : Type 0} (a b : ℕ) → (a ≤ b → X) → (b < a → X) → X
 by-le a b low high = by-cases (decLe a b) low (λ h. high (omega arith))
-
--- a set as a function: each number's bit is 0 or 1, and none is set from `end` on
-pub record Within (f : ℕ → ℕ) (end : ℕ) : Type 0 where
-  pub bit : (n : ℕ) → f n < 2
-  pub out : (n : ℕ) → end ≤ n → f n ≡ 0
 
 -- a number that is not there is passed over
 pub members-skip : (f : ℕ → ℕ) (n k : ℕ) → f n ≡ 0 → members f n (suc k) ≡ members f (suc n) k
@@ -55,12 +51,12 @@ left-skip f n end clear =
     let left : end - n ≡ suc (end - suc n) = omega arith in
     rw left (members-skip f n (end - suc n) clear))
 
-pub window-out : (f : ℕ → ℕ) (n k end : ℕ) → Within f end → end ≤ n → window f n k ≡ 0
+pub window-out : (f : ℕ → ℕ) (n k end : ℕ) → BitsBelow f end → end ≤ n → window f n k ≡ 0
 unfolding window
 window-out f n zero end set past = refl
 window-out f n (suc k) end set past = omega (arith, set .out n past, window-out f (suc n) k end set (omega arith))
 
-pub window-lt : (f : ℕ → ℕ) (n k end : ℕ) → Within f end → window f n k < 2 ^ k
+pub window-lt : (f : ℕ → ℕ) (n k end : ℕ) → BitsBelow f end → window f n k < 2 ^ k
 unfolding window
 window-lt f n zero end set = omega (arith, pow-zero 2)
 window-lt f n (suc k) end set = omega (arith, set .bit n, window-lt f (suc n) k end set, pow-suc 2 k)
@@ -72,11 +68,11 @@ window-append f n (suc i) j =
     rw (suc-add, window-append f (suc n) i j, pow-succ', suc-add, add-suc, mul-add, ← mul-assoc, add-assoc)
 
 -- a window as a number, shifted and cut
-pub window-shr : (f : ℕ → ℕ) (n r k end : ℕ) → Within f end → window f n (r + k) / 2 ^ r ≡ window f (n + r) k
+pub window-shr : (f : ℕ → ℕ) (n r k end : ℕ) → BitsBelow f end → window f n (r + k) / 2 ^ r ≡ window f (n + r) k
 window-shr f n r k end set =
     rw (window-append, add-comm, mul-comm) (digits-div (window f (n + r) k) (window-lt f n r end set))
 
-pub window-low : (f : ℕ → ℕ) (n k j end : ℕ) → Within f end → window f n (k + j) % 2 ^ k ≡ window f n k
+pub window-low : (f : ℕ → ℕ) (n k j end : ℕ) → BitsBelow f end → window f n (k + j) % 2 ^ k ≡ window f n k
 window-low f n k j end set =
     rw (window-append, add-comm, mul-comm) (digits-mod (window f (n + k) j) (window-lt f n k end set))
 
@@ -91,7 +87,7 @@ window-digits f n (suc k) x digit =
     let whole : x % 2 ^ suc k ≡ (x / 2 % 2 ^ k) * 2 + x % 2 = rw (pow-suc) (mod-mul x (pow-pos k) (omega arith)) in
     omega arith
 
-pub members-append : (f : ℕ → ℕ) (end n i j : ℕ) → Within f end → members f n (i + j) ≡ members f n i ++ members f (n + i) j
+pub members-append : (f : ℕ → ℕ) (end n i j : ℕ) → BitsBelow f end → members f n (i + j) ≡ members f n i ++ members f (n + i) j
 unfolding members
 members-append f end n zero j set = rw (zero-add, add-zero)
 members-append f end n (suc i) j set =
@@ -101,7 +97,7 @@ members-append f end n (suc i) j set =
     (λ there. rw (suc-add, next, members-take f n (i + j) there, members-take f n i there, members-append f end (suc n) i j set))
 
 -- a window's digits count its members
-pub members-ones : (f : ℕ → ℕ) (end n k : ℕ) → Within f end → length (members f n k) ≡ ones (window f n k)
+pub members-ones : (f : ℕ → ℕ) (end n k : ℕ) → BitsBelow f end → length (members f n k) ≡ ones (window f n k)
 unfolding members window ones
 members-ones f end n zero set = refl
 members-ones f end n (suc k) set =
@@ -113,7 +109,7 @@ members-ones f end n (suc k) set =
     (λ there. rw (members-take f n k there) (omega (arith, step, members-ones f end (suc n) k set)))
 
 -- the members from n on: those of a window, and those behind it
-pub count-window : (f : ℕ → ℕ) (end n k : ℕ) → Within f end → n + k ≤ end
+pub count-window : (f : ℕ → ℕ) (end n k : ℕ) → BitsBelow f end → n + k ≤ end
     → length (members f n (end - n)) ≡ ones (window f n k) + length (members f (n + k) (end - (n + k)))
 count-window f end n k set fits =
     let left : end - n ≡ k + (end - (n + k)) = omega arith in

@@ -21,5 +21,5 @@ of-other s outcome size = rw (ne-eqb (length s) storeSize size)
 pub changed-fine : (s changed new : List ℕ) → length s ≡ storeSize → new ≡ changed → Changed s changed checked.Fine new
 changed-fine s changed new size same = record { answer = rw (of-store s _ size); store = rw (of-store s _ size) same }
 
-pub changed-other : (s changed : List ℕ) → (length s ≡ storeSize → ⊥) → Changed s changed (checked.No (refusal.Store (length s))) s
+pub changed-other : (s changed : List ℕ) → (length s ≡ storeSize → ⊥) → Changed s changed (checked.No (refusal.StoreLength (length s))) s
 changed-other s changed size = record { answer = rw (of-other s _ size); store = rw (of-other s _ size) }

@@ -9,8 +9,9 @@ use native.Mathlib.Nat.{pow-zero, div-one}
 use lib.ListN.{length, getD, length-set, drop-of-length-le}
 use lib.Seq.{sets, sets-eq, getD-set-same, getD-set-other}
 use Rattle.lent.specs.Bytes.{zeroBytes}
-use Rattle.lent.specs.Laws.{length-zeroBytes}
+use Rattle.lent.proofs.Laws.{length-zeroBytes}
 use Rattle.nack_store.specs.Bits.{storeSize, bitOf, withBit, changedBit, added, removed, emptyStore}
+use Rattle.nack_store.specs.Sets.{OneBit}
 use Rattle.nack_store.proofs.Bytes.{halve, with-suc, with-zero}
 
 with-same : (b r bit : ℕ) → bit < 2 → withBit b r bit / 2 ^ r % 2 ≡ bit
@@ -28,13 +29,6 @@ with-other b (suc r) bit zero two other = rw (with-suc, pow-zero, div-one, div-o
 with-other b (suc r) bit (suc j) two other =
     let rest : (b % 2 + 2 * withBit (b / 2) r bit) / 2 ≡ withBit (b / 2) r bit = omega arith in
     rw (with-suc, halve, rest, halve) (with-other (b / 2) r bit j two (λ e. other (ap suc e)))
-
--- a store that differs from s in the bit of number n alone
-pub record OneBit (s : List ℕ) (n bit : ℕ) (new : List ℕ) : Type 0 where
-  pub size : length new ≡ length s
-  pub this : bitOf new n ≡ bit
-  pub others : (m : ℕ) → (m ≡ n → ⊥) → bitOf new m ≡ bitOf s m
-  pub bytes : (i : ℕ) → (i ≡ n / 8 → ⊥) → getD new i 0 ≡ getD s i 0
 
 changed-one : (s : List ℕ) (n bit : ℕ) → n < 8 * length s → bit < 2 → OneBit s n bit (changedBit s n bit)
 changed-one s n bit below two =

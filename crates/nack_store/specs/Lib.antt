@@ -1,3 +1,3 @@
 pub mod Bits
+pub mod Sets
 pub mod Promise
-pub mod Unique

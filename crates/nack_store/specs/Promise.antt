@@ -9,7 +9,7 @@ use Rattle.refusal.specs.Outcome.{Outcome, gave, refuse}
 use Rattle.refusal.specs.Number.{no}
 use Rattle.refusal.specs.Said.{saidChecked}
 use Rattle.refusal.specs.declared.Checked.{Checked}
-use Rattle.lent.specs.After.{held}
+use Rattle.lent.specs.Fills.{held}
 use Rattle.nack_store.specs.Bits.{storeSize, bitOf, numbersOf}
 use Rattle.nack_store.specs.declared.Membership.{Membership}
 use Rattle.nack_store.specs.declared.Membership.the-variants as membership

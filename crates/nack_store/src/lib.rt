@@ -8,11 +8,11 @@ ghost use mathlib.Core.Path.{_≡_};
 ghost use Prim.Native.Nat.{_<_};
 ghost use lib.ListN.{length};
 ghost use Rattle.refusal.specs.Said.{saidNumber};
-ghost use Rattle.nack_store.specs.Bits.{withBit, changedBit, added, removed, emptyStore, numbersOf};
+ghost use Rattle.nack_store.specs.Bits.{storeSize, withBit, changedBit, added, removed, emptyStore, numbersOf};
 ghost use Rattle.nack_store.specs.Promise.{Changed, hasNumber, countNumbers, saidMembership};
 
 // The size of a store: a bit for each of the 65,536 numbers.
-const STORE: usize = 8192;
+pub const STORE: usize = 8192;
 
 // The answer to whether a number is in the set.
 pub enum Membership {
@@ -36,7 +36,7 @@ fn set_bit(store: &mut [u8], number: Seq, bit: u8) -> Checked
 {
     let size = store.len();
     if size != STORE {
-        return Checked::No(Refusal::Store(size));
+        return Checked::No(Refusal::StoreLength(size));
     }
     let at = number.0 as usize / 8;
     store[at] = with_bit(store[at], (number.0 % 8) as u8, bit);
@@ -63,7 +63,7 @@ pub fn clear(store: &mut [u8]) -> Checked
 {
     let size = store.len();
     if size != STORE {
-        return Checked::No(Refusal::Store(size));
+        return Checked::No(Refusal::StoreLength(size));
     }
     lent::zeros(store, 0, STORE);
     Checked::Fine
@@ -75,7 +75,7 @@ pub fn has(store: &[u8], number: Seq) -> Membership
 {
     let size = store.len();
     if size != STORE {
-        return Membership::No(Refusal::Store(size));
+        return Membership::No(Refusal::StoreLength(size));
     }
     if (store[number.0 as usize / 8] >> (number.0 % 8)) % 2 == 1 {
         return Membership::In;
@@ -85,7 +85,7 @@ pub fn has(store: &[u8], number: Seq) -> Membership
 
 // How many bits are set.
 fn count_members(store: &[u8]) -> usize
-    requires { ⌜ length (now store) ≡ 8192 ⌝ }
+    requires { ⌜ length (now store) ≡ storeSize ⌝ }
     ensures { λ r. ⌜ r ≡ length (numbersOf (now (store .entry))) ⌝ }
 {
     let mut found: usize = 0;
@@ -103,7 +103,7 @@ pub fn count(store: &[u8]) -> Number
 {
     let size = store.len();
     if size != STORE {
-        return Number::No(Refusal::Store(size));
+        return Number::No(Refusal::StoreLength(size));
     }
     Number::Is(count_members(store))
 }

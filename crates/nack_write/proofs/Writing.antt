@@ -10,7 +10,7 @@ use lib.Seq.{sets, length-sets}
 use Rattle.nack_store.specs.Bits.{bitOf, members, window, numbersOf}
 use Rattle.nack_store.proofs.Sets.{left-none}
 use Rattle.nack_store.proofs.Bytes.{within}
-use Rattle.nack.specs.Entries.{Entry, entry, entriesOf, entryBytes, bytesOf, nackBytes}
+use Rattle.nack.specs.Entries.{Entry, entry, entriesOf, entryBytes, allBytes, nackBytes}
 use Rattle.nack_write.specs.Promise.{Next}
 use Rattle.nack.proofs.Opens.{opened, most-entries}
 
@@ -46,8 +46,8 @@ counted-turn {s} {entries} {number} {next} below x i =
 pub counted-over : {s : List ℕ} {entries number : ℕ} → 8 * length s ≤ number → Counted s entries number → entries ≡ length (entriesOf (numbersOf s))
 counted-over {s} {entries} {number} past i = omega (arith, i .sum, ap length (rest-over s number past))
 
-length-bytes : (es : List Entry) → length (bytesOf es) ≡ 4 * length es
-unfolding bytesOf
+length-bytes : (es : List Entry) → length (allBytes es) ≡ 4 * length es
+unfolding allBytes
 length-bytes [] = refl
 length-bytes (entry n mask ∷ es) = omega (arith, length-bytes es)
 
@@ -62,7 +62,7 @@ most-bytes s size = omega (arith, length-nack s, most-entries s size)
 -- what is left of the entries, stored from here, makes the whole
 pub record Putting (s out₀ out : List ℕ) (at number : ℕ) : Type 0 where
   pub there : number < 8 * length s → bitOf s number ≡ 1
-  pub bytes : sets out at (bytesOf (restOf s number)) ≡ sets out₀ 0 (nackBytes s)
+  pub bytes : sets out at (allBytes (restOf s number)) ≡ sets out₀ 0 (nackBytes s)
   pub same : length out ≡ length out₀
   pub end : at + 4 * length (restOf s number) ≡ length (nackBytes s)
   pub room : length (nackBytes s) ≤ length out₀
@@ -73,7 +73,7 @@ putting-start {s} out {number} x fits =
     let all = rest-first s number x in
     record {
       there = x .there;
-      bytes = ap (λ (es : List Entry). sets out 0 (bytesOf es)) all;
+      bytes = ap (λ (es : List Entry). sets out 0 (allBytes es)) all;
       same = refl;
       end = omega (arith, ap length all, length-bytes (entriesOf (numbersOf s)));
       room = fits;
@@ -85,7 +85,7 @@ putting-room {s} {out₀} {out} {at} {number} below i =
 
 pub putting-turn : {s out₀ out : List ℕ} {at number next : ℕ} (mask : ℕ) (new : List ℕ) → number < 8 * length s → Next s (number + 17) next
     → mask ≡ window (bitOf s) (number + 1) 16 → new ≡ sets out at (entryBytes number mask) → Putting s out₀ out at number → Putting s out₀ new (at + 4) next
-unfolding bytesOf
+unfolding allBytes
 putting-turn {s} {out₀} {out} {at} {number} {next} mask new below x masked stored i =
     let front = rest-turn s number next (i .there) below x in
     record {
@@ -97,7 +97,7 @@ putting-turn {s} {out₀} {out} {at} {number} {next} mask new below x masked sto
     }
 
 pub putting-over : {s out₀ out : List ℕ} {at number : ℕ} → 8 * length s ≤ number → Putting s out₀ out at number → (at ≡ length (nackBytes s)) × (out ≡ sets out₀ 0 (nackBytes s))
-unfolding bytesOf
+unfolding allBytes
 putting-over {s} {out₀} {out} {at} {number} past i =
     let none = rest-over s number past in
     (omega (arith, i .end, ap length none), rw none at (i .bytes))

@@ -3,14 +3,11 @@ use refusal::Number;
 use refusal::Refusal;
 ghost use mathlib.Core.Path.{_≡_};
 ghost use Prim.Native.Nat.{_+_, _/_, _<_, _≤_};
-ghost use lib.ListN.{length, getD};
+ghost use lib.ListN.{length};
 ghost use lib.Seq.{sets};
-ghost use Rattle.nack_store.specs.Bits.{bitOf, window, numbersOf};
+ghost use Rattle.nack_store.specs.Bits.{storeSize, bitOf, window, numbersOf};
 ghost use Rattle.nack.specs.Entries.{entriesOf, nackBytes, entryBytes};
 ghost use Rattle.nack_write.specs.Promise.{Next, Wrote};
-
-// The size of a store.
-const STORE: usize = 8192;
 
 // How many numbers it has bits for.
 const NUMBERS: usize = 65536;
@@ -18,28 +15,12 @@ const NUMBERS: usize = 65536;
 // The bytes of the most entries that a store needs: 3,856 of them.
 const MOST: usize = 15424;
 
-fn wide(byte: u8) -> usize
-    ensures { λ r. ⌜ (r ≡ byte) × (r < 256) ⌝ }
-{
-    byte as usize
-}
-
 // A number's bit.
 fn bit(store: &[u8], number: usize) -> usize
     requires { ⌜ number / 8 < length (now store) ⌝ }
     ensures { λ r. ⌜ r ≡ bitOf (now (store .entry)) number ⌝ }
 {
-    (wide(store[number / 8]) >> (number % 8)) % 2
-}
-
-// The byte at a place, 0 past the end.
-fn byte_at(store: &[u8], at: usize) -> usize
-    ensures { λ r. ⌜ (r ≡ getD (now (store .entry)) at 0) × (r < 256) ⌝ }
-{
-    if at < store.len() {
-        return wide(store[at]);
-    }
-    0
+    (octets::wide(store[number / 8]) >> (number % 8)) % 2
 }
 
 // The bits of sixteen numbers, the first worth 1.
@@ -47,13 +28,15 @@ fn window16(store: &[u8], first: usize) -> usize
     ensures { λ r. ⌜ (r ≡ window (bitOf (now (store .entry))) first 16) × (r < 65536) ⌝ }
 {
     let at = first / 8;
-    let bits = byte_at(store, at) + 256 * byte_at(store, at + 1) + 65536 * byte_at(store, at + 2);
+    let bits = octets::byte_at(store, at)
+        + 256 * octets::byte_at(store, at + 1)
+        + 65536 * octets::byte_at(store, at + 2);
     (bits >> (first % 8)) % 65536
 }
 
 // The first number from a number on that the store has.
 fn next_from(store: &[u8], first: usize) -> usize
-    requires { ⌜ length (now store) ≡ 8192 ⌝ }
+    requires { ⌜ length (now store) ≡ storeSize ⌝ }
     ensures { λ r. ⌜ Next (now (store .entry)) first r ⌝ }
 {
     let mut number = first;
@@ -68,7 +51,7 @@ fn next_from(store: &[u8], first: usize) -> usize
 
 // How many entries the store's numbers need.
 fn count_entries(store: &[u8]) -> usize
-    requires { ⌜ length (now store) ≡ 8192 ⌝ }
+    requires { ⌜ length (now store) ≡ storeSize ⌝ }
     ensures { λ r. ⌜ (r ≡ length (entriesOf (numbersOf (now (store .entry))))) × (r ≤ 3856) ⌝ }
 {
     let mut entries: usize = 0;
@@ -93,7 +76,7 @@ fn put_entry(out: &mut [u8], at: usize, number: usize, mask: usize)
 
 // The entries of the store's numbers, which fit; how many bytes that is.
 fn put_entries(store: &[u8], out: &mut [u8]) -> usize
-    requires { ⌜ (length (now store) ≡ 8192) × (length (nackBytes (now store)) ≤ length (now out)) ⌝ }
+    requires { ⌜ (length (now store) ≡ storeSize) × (length (nackBytes (now store)) ≤ length (now out)) ⌝ }
     ensures { λ r. ⌜ (r ≡ length (nackBytes (now (store .entry)))) × (now (out .exit) ≡ sets (now (out .entry)) 0 (nackBytes (now (store .entry)))) ⌝ }
 {
     let mut at: usize = 0;
@@ -112,8 +95,8 @@ pub fn write(store: &[u8], out: &mut [u8]) -> Number
     ensures { λ r. ⌜ Wrote (now (store .entry)) (now (out .entry)) r (now (out .exit)) ⌝ }
 {
     let size = store.len();
-    if size != STORE {
-        return Number::No(Refusal::Store(size));
+    if size != nack_store::STORE {
+        return Number::No(Refusal::StoreLength(size));
     }
     let present = out.len();
     if MOST <= present {
@@ -121,7 +104,7 @@ pub fn write(store: &[u8], out: &mut [u8]) -> Number
     }
     let needed = 4 * count_entries(store);
     if present < needed {
-        return Number::No(Refusal::Room { needed, present });
+        return Number::No(Refusal::OutputTooSmall { needed, present });
     }
     Number::Is(put_entries(store, out))
 }

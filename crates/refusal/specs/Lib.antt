@@ -1,5 +1,4 @@
 pub mod Outcome
 pub mod Number
 pub mod Said
-pub mod Unique
 pub mod Told

@@ -4,41 +4,41 @@ use mathlib.Core.List.{List, [], _∷_}
 use lib.IntN.{ℤ, pos}
 use Rattle.refusal.specs.Outcome.{Outcome, refused}
 use Rattle.refusal.specs.declared.Refusal.{Refusal}
-use Rattle.refusal.specs.declared.Refusal.the-variants.{TooShort, Version, PacketType, TooLong, Padding, Count, UnevenPadding, Time, Body, Word, ListLength, Limit, Room, Store, Least}
+use Rattle.refusal.specs.declared.Refusal.the-variants.{Truncated, UnsupportedVersion, PacketTypeMismatch, TooLarge, InvalidPadding, CountOutOfRange, UnevenPadding, ReferenceTimeTooLarge, BodyLength, StatusOutOfRange, ListTooLong, LimitTooSmall, OutputTooSmall, StoreLength, LeastLength}
 
 abbrev pub numberOf : Refusal → ℕ
-numberOf (TooShort expected actual) = 1
-numberOf (Version version) = 2
-numberOf (PacketType actual requested) = 3
-numberOf (TooLong expected actual) = 4
-numberOf Padding = 5
-numberOf (Count count) = 8
+numberOf (Truncated expected actual) = 1
+numberOf (UnsupportedVersion version) = 2
+numberOf (PacketTypeMismatch actual requested) = 3
+numberOf (TooLarge expected actual) = 4
+numberOf InvalidPadding = 5
+numberOf (CountOutOfRange count) = 8
 numberOf (UnevenPadding padding) = 9
-numberOf (Time time) = 10
-numberOf (Body size) = 11
-numberOf (Word place) = 12
-numberOf (ListLength size) = 13
-numberOf (Limit limit) = 14
-numberOf (Room needed present) = 15
-numberOf (Store size) = 16
-numberOf (Least least) = 17
+numberOf (ReferenceTimeTooLarge time) = 10
+numberOf (BodyLength size) = 11
+numberOf (StatusOutOfRange place) = 12
+numberOf (ListTooLong size) = 13
+numberOf (LimitTooSmall limit) = 14
+numberOf (OutputTooSmall needed present) = 15
+numberOf (StoreLength size) = 16
+numberOf (LeastLength least) = 17
 
 abbrev pub valuesOf : Refusal → List ℤ
-valuesOf (TooShort expected actual) = pos expected ∷ pos actual ∷ []
-valuesOf (Version version) = pos version ∷ []
-valuesOf (PacketType actual requested) = pos actual ∷ pos requested ∷ []
-valuesOf (TooLong expected actual) = pos expected ∷ pos actual ∷ []
-valuesOf Padding = []
-valuesOf (Count count) = pos count ∷ []
+valuesOf (Truncated expected actual) = pos expected ∷ pos actual ∷ []
+valuesOf (UnsupportedVersion version) = pos version ∷ []
+valuesOf (PacketTypeMismatch actual requested) = pos actual ∷ pos requested ∷ []
+valuesOf (TooLarge expected actual) = pos expected ∷ pos actual ∷ []
+valuesOf InvalidPadding = []
+valuesOf (CountOutOfRange count) = pos count ∷ []
 valuesOf (UnevenPadding padding) = pos padding ∷ []
-valuesOf (Time time) = pos time ∷ []
-valuesOf (Body size) = pos size ∷ []
-valuesOf (Word place) = pos place ∷ []
-valuesOf (ListLength size) = pos size ∷ []
-valuesOf (Limit limit) = pos limit ∷ []
-valuesOf (Room needed present) = pos needed ∷ pos present ∷ []
-valuesOf (Store size) = pos size ∷ []
-valuesOf (Least least) = pos least ∷ []
+valuesOf (ReferenceTimeTooLarge time) = pos time ∷ []
+valuesOf (BodyLength size) = pos size ∷ []
+valuesOf (StatusOutOfRange place) = pos place ∷ []
+valuesOf (ListTooLong size) = pos size ∷ []
+valuesOf (LimitTooSmall limit) = pos limit ∷ []
+valuesOf (OutputTooSmall needed present) = pos needed ∷ pos present ∷ []
+valuesOf (StoreLength size) = pos size ∷ []
+valuesOf (LeastLength least) = pos least ∷ []
 
 -- a refusal as a promise speaks of it
 abbrev pub no : {A : Type 0} → Refusal → Outcome A

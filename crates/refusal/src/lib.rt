@@ -2,21 +2,21 @@
 ghost use Rattle.refusal.specs.Told.{Tells};
 
 pub enum Refusal {
-    TooShort { expected: usize, actual: usize },
-    Version(u8),
-    PacketType { actual: u8, requested: u8 },
-    TooLong { expected: usize, actual: usize },
-    Padding,
-    Count(u8),
+    Truncated { expected: usize, actual: usize },
+    UnsupportedVersion(u8),
+    PacketTypeMismatch { actual: u8, requested: u8 },
+    TooLarge { expected: usize, actual: usize },
+    InvalidPadding,
+    CountOutOfRange(u8),
     UnevenPadding(u8),
-    Time(u32),
-    Body(usize),
-    Word(usize),
-    ListLength(usize),
-    Limit(usize),
-    Room { needed: usize, present: usize },
-    Store(usize),
-    Least(usize),
+    ReferenceTimeTooLarge(u32),
+    BodyLength(usize),
+    StatusOutOfRange(usize),
+    ListTooLong(usize),
+    LimitTooSmall(usize),
+    OutputTooSmall { needed: usize, present: usize },
+    StoreLength(usize),
+    LeastLength(usize),
 }
 
 // A check's answer: nothing to object to, or why not.
@@ -42,32 +42,32 @@ pub fn tell(r: Refusal) -> Told
     ensures { λ t. ⌜ Tells r t ⌝ }
 {
     match r {
-        Refusal::TooShort { expected, actual } => Told {
+        Refusal::Truncated { expected, actual } => Told {
             number: 1,
             first: expected as u64,
             second: actual as u64,
         },
-        Refusal::Version(version) => Told {
+        Refusal::UnsupportedVersion(version) => Told {
             number: 2,
             first: version as u64,
             second: 0,
         },
-        Refusal::PacketType { actual, requested } => Told {
+        Refusal::PacketTypeMismatch { actual, requested } => Told {
             number: 3,
             first: actual as u64,
             second: requested as u64,
         },
-        Refusal::TooLong { expected, actual } => Told {
+        Refusal::TooLarge { expected, actual } => Told {
             number: 4,
             first: expected as u64,
             second: actual as u64,
         },
-        Refusal::Padding => Told {
+        Refusal::InvalidPadding => Told {
             number: 5,
             first: 0,
             second: 0,
         },
-        Refusal::Count(count) => Told {
+        Refusal::CountOutOfRange(count) => Told {
             number: 8,
             first: count as u64,
             second: 0,
@@ -77,42 +77,42 @@ pub fn tell(r: Refusal) -> Told
             first: padding as u64,
             second: 0,
         },
-        Refusal::Time(time) => Told {
+        Refusal::ReferenceTimeTooLarge(time) => Told {
             number: 10,
             first: time as u64,
             second: 0,
         },
-        Refusal::Body(size) => Told {
+        Refusal::BodyLength(size) => Told {
             number: 11,
             first: size as u64,
             second: 0,
         },
-        Refusal::Word(place) => Told {
+        Refusal::StatusOutOfRange(place) => Told {
             number: 12,
             first: place as u64,
             second: 0,
         },
-        Refusal::ListLength(size) => Told {
+        Refusal::ListTooLong(size) => Told {
             number: 13,
             first: size as u64,
             second: 0,
         },
-        Refusal::Limit(limit) => Told {
+        Refusal::LimitTooSmall(limit) => Told {
             number: 14,
             first: limit as u64,
             second: 0,
         },
-        Refusal::Room { needed, present } => Told {
+        Refusal::OutputTooSmall { needed, present } => Told {
             number: 15,
             first: needed as u64,
             second: present as u64,
         },
-        Refusal::Store(size) => Told {
+        Refusal::StoreLength(size) => Told {
             number: 16,
             first: size as u64,
             second: 0,
         },
-        Refusal::Least(least) => Told {
+        Refusal::LeastLength(least) => Told {
             number: 17,
             first: least as u64,
             second: 0,

@@ -131,7 +131,16 @@ fn says(s: &[u8], said: Said) -> bool {
     if values[3] != number_of(s, at, 4) {
         return false;
     }
-    values[4] == number_of(s, at, 5)
+    if values[4] != number_of(s, at, 5) {
+        return false;
+    }
+    if values[5] != number_of(s, at, 6) {
+        return false;
+    }
+    if values[6] != number_of(s, at, 7) {
+        return false;
+    }
+    values[7] == number_of(s, at, 8)
 }
 
 // Where the memory after the call is to be read: that before it, if `=` says that it is as it was.

@@ -9,7 +9,7 @@ pub struct Digits {
     pub good: bool,
 }
 
-// Up to six numbers: how many, and the place behind them.
+// Up to nine numbers: how many, and the place behind them.
 pub struct Numbers {
     pub count: usize,
     pub next: usize,
@@ -92,7 +92,7 @@ pub fn number_of(s: &[u8], from: usize, place: usize) -> u64 {
 pub fn numbers_at(s: &[u8], from: usize) -> Numbers {
     let mut count = 0;
     let mut at = from;
-    while count < 6 {
+    while count < 9 {
         let number = spaced_number_at(s, at);
         if !number.good {
             break;

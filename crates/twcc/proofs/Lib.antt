@@ -4,4 +4,3 @@ pub mod Reading
 pub mod Written
 pub mod Tested
 pub mod Unique
-pub mod Examples

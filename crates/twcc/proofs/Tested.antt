@@ -13,7 +13,7 @@ use mir.Facts.{toZ-ofZ}
 use Rattle.twcc.specs.Words.{half, notReceived, truncated, reserved, symbolOf}
 use Rattle.twcc.specs.Status.{statusOf}
 use Rattle.twcc.specs.declared.Status.the-variants.{Received, NotReceived, Truncated, Reserved, NoStatus}
-use Rattle.twcc.proofs.Written.{by-test}
+use Rattle.octets.proofs.Logic.{by-test}
 
 -- what a branch gave its local, as a function of the test
 pub by-yes : {t : Bool} {x a : ℕ} (b : ℕ) → t ≡ true → x ≡ a → x ≡ cond t a b

@@ -3,22 +3,17 @@
 use Prim.Native.Nat.{ℕ, zero, suc, _+_, _-_, _*_, _/_, _%_, _≤_, _<_}
 use mathlib.Core.Path.{_≡_, refl, ap, ap₂, _∙_}
 use mathlib.Core.List.{List, [], _∷_, _++_, map, append-assoc}
-use mathlib.Core.Bool.{Bool, true, false}
 use native.Mathlib.Omega.{arith}
 use borrow.Author.Tests.{ltb-false, le-ltb}
 use lib.Dec.{ltb}
 use lib.IntN.{ℤ, pos, negsuc}
 use lib.ListN.{length, take, drop, length-append}
+use Rattle.octets.proofs.Logic.{by-test}
 use Rattle.twcc.specs.Time.{latest, timeOf, timeBits}
 use Rattle.twcc.specs.Words.{half, Valid, AllValid, bytesOf, widthOf, signed16, wordOf, entries, symbolOf, bits16, bytesFor, deltaBytes, deltas}
 use Rattle.twcc.specs.Chunks.{Below, standsFor, chunkBytes}
 use Rattle.twcc.specs.Block.{symbols, afterChunks}
 use Rattle.twcc.proofs.Reading.{symbols-zero, symbols-cons, after-zero, after-cons}
-
--- a test's two cases, each with its equation
-pub by-test {ℓ} : {X : Type ℓ} (b : Bool) → (b ≡ true → X) → (b ≡ false → X) → X
-by-test true taken left = taken refl
-by-test false taken left = left refl
 
 -- ---- times
 

@@ -18,8 +18,8 @@ use Rattle.twcc.proofs.Reading.{symbols-zero, symbols-short, symbols-cons, afte
 use Rattle.twcc_cursors.specs.Cursors.{headerOf, saidHeaded, headed, taken, nextChunk, fullChunk, nextDelta, countsOf}
 use Rattle.refusal.specs.Outcome.{gave}
 use Rattle.refusal.specs.Number.{no as refused}
-use Rattle.refusal.specs.Unique.{no-unique}
-use Rattle.refusal.specs.declared.Refusal.the-variants.{TooShort}
+use Rattle.refusal.proofs.Unique.{no-unique}
+use Rattle.refusal.specs.declared.Refusal.the-variants.{Truncated}
 use Rattle.kinds.specs.declared.RefTime.{RefTime}
 use Rattle.twcc_cursors.specs.declared.Header.{Header}
 use Rattle.twcc_cursors.specs.declared.Headed.{Headed}
@@ -51,7 +51,7 @@ pub header-is : (s : List ℕ) (base statuses feedback : ℕ) (time : RefTime) �
 header-is s base statuses feedback time a-base a-count a-time a-feedback =
     λ i. record { base = record { 0 = a-base i }; statuses = a-count i; time = record { 0 = a-time i }; feedback = a-feedback i }
 
-pub headed-short : (s : List ℕ) → length s < 8 → refused (TooShort 8 (length s)) ≡ headed s
+pub headed-short : (s : List ℕ) → length s < 8 → refused (Truncated 8 (length s)) ≡ headed s
 unfolding headed
 headed-short s short = simp (lt-ltb _ _ short)
 
@@ -62,17 +62,17 @@ headed-long s header long is = simp (le-ltb _ _ long, is)
 -- what an answer tells
 abbrev pub HeadedIs : List ℕ → Headed → Type 0
 HeadedIs s (answer.Header h) = (8 ≤ length s) × (h ≡ headerOf s)
-HeadedIs s (answer.No r) = (length s < 8) × (r ≡ TooShort 8 (length s))
+HeadedIs s (answer.No r) = (length s < 8) × (r ≡ Truncated 8 (length s))
 
 headed-tells : (s : List ℕ) (h : Headed) → Dec (length s < 8) → saidHeaded h ≡ headed s → HeadedIs s h
 headed-tells s (answer.Header h) (yes short) said =
-    let same : gave h ≡ refused (TooShort 8 (length s)) = said ∙ sym (headed-short s short) in
+    let same : gave h ≡ refused (Truncated 8 (length s)) = said ∙ sym (headed-short s short) in
     let z : _≡_ {A = ℕ} 0 1 = cc in
     absurd (omega arith)
 headed-tells s (answer.Header h) (no long) said =
     let same : gave h ≡ gave (headerOf s) = said ∙ sym (headed-long s (headerOf s) (omega arith) refl) in
     (omega arith, cc)
-headed-tells s (answer.No r) (yes short) said = (short, no-unique {A = Header} r (TooShort 8 (length s)) (said ∙ sym (headed-short s short)))
+headed-tells s (answer.No r) (yes short) said = (short, no-unique {A = Header} r (Truncated 8 (length s)) (said ∙ sym (headed-short s short)))
 headed-tells s (answer.No r) (no long) said =
     let same : refused r ≡ gave (headerOf s) = said ∙ sym (headed-long s (headerOf s) (omega arith) refl) in
     let z : _≡_ {A = ℕ} 0 1 = cc in

@@ -3,7 +3,7 @@ use Prim.Native.Nat.{ℕ, _+_, _*_}
 use mathlib.Core.Path.{_≡_, sym, ap, _∙_}
 use mathlib.Core.List.{List}
 use lib.IntN.{ℤ}
-use Rattle.refusal.specs.Unique.{no-unique}
+use Rattle.refusal.proofs.Unique.{no-unique}
 use Rattle.twcc.specs.Words.{signed16}
 use Rattle.twcc_cursors.specs.Cursors.{saidHeaded, headed, countsOf, nextChunk, nextDelta}
 use Rattle.twcc_cursors.specs.Packets.{saidOpened, opened, nextPacket}

@@ -14,7 +14,7 @@ use Rattle.kinds.specs.declared.Seq.{Seq}
 use Rattle.refusal.specs.Outcome.{gave}
 use Rattle.refusal.specs.Number.{no as refused}
 use Rattle.refusal.specs.declared.Refusal.{Refusal}
-use Rattle.refusal.specs.declared.Refusal.the-variants.{TooShort}
+use Rattle.refusal.specs.declared.Refusal.the-variants.{Truncated}
 use Rattle.twcc.specs.Words.{bytesOf, wordOf, entries}
 use Rattle.twcc.specs.Chunks.{standsFor}
 use Rattle.twcc.specs.Block.{baseOf, symbols, blockSymbols, listed}
@@ -183,7 +183,7 @@ packets-listed block small =
     subst (λ (ds : List ℕ). Walks block (baseOf block) 0 (firstPackets block) (entries (blockSymbols block) ds)) (deltas-there block)
     (walk block (baseOf block) 0 (blockSymbols block) (firstPackets block) (omega arith) (omega arith) refl)
 
-pub opened-short : (block : List ℕ) (r : Refusal) → length block < 8 → r ≡ TooShort 8 (length block) → refused r ≡ opened block
+pub opened-short : (block : List ℕ) (r : Refusal) → length block < 8 → r ≡ Truncated 8 (length block) → refused r ≡ opened block
 unfolding opened
 opened-short block r short is = rw is (simp (lt-ltb _ _ short))
 

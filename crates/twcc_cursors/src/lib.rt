@@ -7,37 +7,18 @@ use twcc::NOT_RECEIVED;
 use twcc::RESERVED;
 use twcc::TRUNCATED;
 ghost use mathlib.Core.Path.{_≡_};
-ghost use Prim.Native.Nat.{_+_, _*_, _<_, min};
-ghost use lib.ListN.{getD, drop};
+ghost use Prim.Native.Nat.{_+_, _*_, _<_};
+ghost use lib.ListN.{drop};
 ghost use Rattle.twcc.specs.Words.{signed16};
 ghost use Rattle.twcc.specs.Time.{timeOf};
 ghost use Rattle.twcc_cursors.specs.Cursors.{saidHeaded, headed, countsOf, nextChunk, fullChunk, nextDelta};
 ghost use Rattle.twcc_cursors.specs.Packets.{saidOpened, opened, packetAt, nextPacket};
-
-fn wide(x: u8) -> usize
-    ensures { λ r. ⌜ (r ≡ x) × (r < 256) ⌝ }
-{
-    x as usize
-}
-
-// The byte at a place, 0 past the end.
-fn byte_at(block: &[u8], at: usize) -> usize
-    ensures { λ r. ⌜ (r ≡ getD (now (block .entry)) at 0) × (r < 256) ⌝ }
-{
-    if at < block.len() { wide(block[at]) } else { 0 }
-}
 
 fn joined(high: usize, low: usize) -> usize
     requires { ⌜ (high < 256) × (low < 256) ⌝ }
     ensures { λ r. ⌜ (r ≡ 256 * high + low) × (r < 65536) ⌝ }
 {
     256 * high + low
-}
-
-fn lesser(a: usize, b: usize) -> usize
-    ensures { λ r. ⌜ r ≡ min a b ⌝ }
-{
-    if a < b { a } else { b }
 }
 
 // The time of 24 bits.
@@ -68,15 +49,15 @@ impl Header {
         ensures { λ r. ⌜ saidHeaded r ≡ headed (now (block .entry)) ⌝ }
     {
         if block.len() < 8 {
-            return Headed::No(Refusal::TooShort {
+            return Headed::No(Refusal::Truncated {
                 expected: 8,
                 actual: block.len(),
             });
         }
-        let base = joined(byte_at(block, 0), byte_at(block, 1));
-        let statuses = joined(byte_at(block, 2), byte_at(block, 3));
-        let time = 65536 * byte_at(block, 4) + 256 * byte_at(block, 5) + byte_at(block, 6);
-        let feedback = byte_at(block, 7);
+        let base = joined(octets::byte_at(block, 0), octets::byte_at(block, 1));
+        let statuses = joined(octets::byte_at(block, 2), octets::byte_at(block, 3));
+        let time = 65536 * octets::byte_at(block, 4) + 256 * octets::byte_at(block, 5) + octets::byte_at(block, 6);
+        let feedback = octets::byte_at(block, 7);
         Headed::Header(Header {
             base: Seq(base as u16),
             statuses: statuses as u16,
@@ -117,9 +98,9 @@ impl Chunks {
         if block.len() - 2 < at {
             return NextChunk::Over;
         }
-        let chunk = joined(byte_at(block, at), byte_at(block, at + 1));
+        let chunk = joined(octets::byte_at(block, at), octets::byte_at(block, at + 1));
         let size = twcc::size(chunk);
-        let count = lesser(left, size);
+        let count = octets::lesser(left, size);
         NextChunk::Taken {
             chunk,
             count,

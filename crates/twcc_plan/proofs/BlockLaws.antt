@@ -11,9 +11,10 @@ use lib.Dec.{ltb}
 use lib.IntN.{ℤ, pos, negsuc}
 use lib.ListN.{length, take, drop, length-append, length-map}
 use Rattle.lent.specs.Bytes.{zeroBytes}
-use Rattle.lent.specs.Laws.{length-zeroBytes}
+use Rattle.lent.proofs.Laws.{length-zeroBytes}
 use Rattle.twcc.specs.Time.{latest, timeOf, timeBits}
-use Rattle.twcc.proofs.Written.{time-back, time-bits, by-test, symbols-lt, length-deltas, entries-back, symbols-back, after-back}
+use Rattle.octets.proofs.Logic.{by-test}
+use Rattle.twcc.proofs.Written.{time-back, time-bits, symbols-lt, length-deltas, entries-back, symbols-back, after-back}
 use Rattle.twcc.specs.Words.{half, Valid, AllValid, symbolOf, bits16, bytesFor, deltaBytes, deltas, widthOf}
 use Rattle.twcc.specs.Chunks.{Below, Chunk, chunkWord, chunkBytes}
 use Rattle.twcc.specs.Block.{be24, baseOf, statusCount, referenceTime, feedbackCount, blockSymbols, blockDeltas, listed}

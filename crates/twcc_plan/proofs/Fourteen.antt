@@ -19,7 +19,8 @@ use mir.Val.{SFits, ofZ, toZ}
 use Rattle.twcc.specs.Words.{half, symbolOf, widthOf}
 use Rattle.twcc.specs.Chunks.{runsEnd, longestRun, Below, pack}
 use Rattle.twcc.proofs.Stands.{pack-lt}
-use Rattle.twcc.proofs.Written.{by-test, bytes-symbol}
+use Rattle.octets.proofs.Logic.{by-test}
+use Rattle.twcc.proofs.Written.{bytes-symbol}
 use Rattle.twcc_plan.specs.Front.{front}
 use Rattle.twcc_plan.specs.Choice.{runOf, oneBit, onesOf, isOne, chunkFor}
 use Rattle.twcc_plan.proofs.PlanLaws.{front-run, width-run, width-le}

@@ -7,7 +7,7 @@ use native.Mathlib.Numerals.{add-one}
 use native.Mathlib.Omega.{arith}
 use lib.ListN.{length, drop, getD, drop-of-length-le}
 use lib.Seq.{drop-cons, drop-drop}
-use Rattle.twcc.proofs.Written.{by-test}
+use Rattle.octets.proofs.Logic.{by-test}
 use Rattle.twcc_plan.specs.Front.{front, FrontCount}
 
 pub front-le : {A : Type 0} (p : A → Bool) (xs : List A) → front p xs ≤ length xs

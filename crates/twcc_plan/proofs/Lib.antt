@@ -10,4 +10,3 @@ pub mod Ranging
 pub mod Stepping
 pub mod Planning
 pub mod Unique
-pub mod WritingExamples

@@ -16,7 +16,8 @@ use Rattle.twcc.specs.Words.{widthOf}
 use Rattle.twcc.specs.Chunks.{Below, Chunk, Run, One, Two, chunkWord, standsFor}
 use Rattle.twcc.proofs.Stands.{padTo, length-padTo, pack-lt, run-back, one-back, two-back}
 use Rattle.twcc.proofs.Entries.{width-append}
-use Rattle.twcc.proofs.Written.{by-test, bytes-symbol, Takes, symbolsIn}
+use Rattle.octets.proofs.Logic.{by-test}
+use Rattle.twcc.proofs.Written.{bytes-symbol, Takes, symbolsIn}
 use Rattle.twcc_plan.specs.Front.{front}
 use Rattle.twcc_plan.proofs.Fronts.{front-le}
 use Rattle.twcc_plan.specs.Choice.{runOf, oneBit, onesOf, isRun, isOne, choice, chunkFor, takenBy, widthBy}

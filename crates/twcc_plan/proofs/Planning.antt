@@ -7,8 +7,8 @@ use native.Mathlib.Omega.{arith}
 use lib.IntN.{ℤ}
 use lib.ListN.{length, drop, length-drop, length-map, drop-of-length-le}
 use lib.Seq.{sets, drop-drop, length-sets}
-use Rattle.lent.specs.Bytes.{be16Bytes}
-use Rattle.lent.specs.Laws.{sets-append}
+use Rattle.octets.specs.Big.{beBytes}
+use Rattle.lent.proofs.Laws.{sets-append}
 use Rattle.twcc.specs.Words.{symbolOf}
 use Rattle.twcc.specs.Chunks.{Chunk, chunkWord, chunkBytes}
 use Rattle.twcc.proofs.Written.{symbols-lt}
@@ -76,7 +76,7 @@ module _ {list : List ℤ} {limit : Option ℕ} {out₀ out : List ℕ} {chunks 
     pub fits : taken + p .count ≤ length list
     pub slim : p .width ≤ 2 * p .count
     pub bits : p .chunk < 65536
-    pub further : (new : List ℕ) → new ≡ sets out (8 + 2 * chunks) (be16Bytes (p .chunk))
+    pub further : (new : List ℕ) → new ≡ sets out (8 + 2 * chunks) (beBytes 2 (p .chunk))
         → Looping list limit out₀ new (chunks + 1) (used + 2 + p .width) (taken + p .count)
 
   turned-chunk : (c : Chunk) → taken < length list → next limit used taken here ≡ some c → Turned (picked c)
@@ -102,13 +102,13 @@ module _ {list : List ℤ} {limit : Option ℕ} {out₀ out : List ℕ} {chunks 
           inside = omega arith;
           few = omega (arith, looping .few);
           small = omega (arith, looping .small);
-          same = ap length stored ∙ length-sets out (8 + 2 * chunks) (be16Bytes (chunkWord c)) ∙ looping .same;
+          same = ap length stored ∙ length-sets out (8 + 2 * chunks) (beBytes 2 (chunkWord c)) ∙ looping .same;
           counts = looping .counts ∙ rw goes (omega arith);
           spends = looping .spends ∙ rw goes;
           makes = looping .makes ∙ rw goes (omega arith);
           stores =
               rw (stored, place)
-              (sets-append out (8 + 2 * chunks) (be16Bytes (chunkWord c)) (bytesIn later)
+              (sets-append out (8 + 2 * chunks) (beBytes 2 (chunkWord c)) (bytesIn later)
               ∙ sym (ap (λ (cs : List Chunk). sets out (8 + 2 * chunks) (bytesIn cs)) goes) ∙ looping .stores);
         };
       }

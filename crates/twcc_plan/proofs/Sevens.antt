@@ -11,7 +11,7 @@ use lib.Dec.{ltb, leb, eqb}
 use lib.ListN.{length, getD, take, drop, replicate}
 use Rattle.twcc.specs.Chunks.{onesEnd, longestRun, Below, pack, unpack}
 use Rattle.twcc.proofs.Stands.{pack-lt, padTo, unpack-pack}
-use Rattle.twcc.proofs.Written.{by-test}
+use Rattle.octets.proofs.Logic.{by-test}
 use Rattle.twcc_plan.specs.Front.{front}
 use Rattle.twcc_plan.proofs.Fronts.{front-yes, front-no, front-skip, front-mono, front-stops}
 use Rattle.twcc_plan.specs.Choice.{runOf, oneBit, onesOf, isRun, isOne, chunkFor}

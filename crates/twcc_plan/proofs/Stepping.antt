@@ -11,7 +11,8 @@ use lib.ListN.{length, take, drop, length-take, length-drop, length-map}
 use lib.Seq.{take-all}
 use Rattle.twcc.specs.Words.{symbolOf}
 use Rattle.twcc.specs.Chunks.{runsEnd, runWeight, longestRun, Below, Chunk, Run, One, Two, chunkWord}
-use Rattle.twcc.proofs.Written.{by-test, symbols-lt}
+use Rattle.octets.proofs.Logic.{by-test}
+use Rattle.twcc.proofs.Written.{symbols-lt}
 use Rattle.twcc_plan.specs.Choice.{chunkFor, takenBy, widthBy}
 use Rattle.twcc_plan.specs.Limits.{upFour, sizeWith, shorten, fitted, next, limitOf}
 use Rattle.twcc_plan.specs.Planned.{Good}

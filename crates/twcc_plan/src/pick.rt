@@ -62,12 +62,6 @@ fn symbol_at(list: &[i32], at: usize) -> usize
     wide(symbol_or_lost(list, at))
 }
 
-fn lesser(a: usize, b: usize) -> usize
-    ensures { λ r. ⌜ r ≡ min a b ⌝ }
-{
-    if a < b { a } else { b }
-}
-
 // 1 where another symbol than the first stands.
 fn miss_at(rest: &[i32], at: usize, first: u32) -> u32
     requires { ⌜ at < length (now rest) ⌝ }
@@ -125,8 +119,8 @@ fn run_from(rest: &[i32], first: u32, from: usize) -> usize
     requires { ⌜ FrontCount (eqb first) (map symbolOf (now rest)) (min longestRun (length (now rest))) from ⌝ }
     ensures { λ r. ⌜ r ≡ min longestRun (front (eqb first) (map symbolOf (now (rest .entry)))) ⌝ }
 {
-    let end = lesser(LONGEST_RUN, rest.len());
-    let near = lesser(from + 32, end);
+    let end = octets::lesser(LONGEST_RUN, rest.len());
+    let near = octets::lesser(from + 32, end);
     let n = run_plain(rest, first, from, near);
     if n < near {
         return n;
@@ -159,7 +153,7 @@ fn run_length(rest: &[i32]) -> usize
 fn ones_length(rest: &[i32]) -> usize
     ensures { λ r. ⌜ r ≡ onesOf (map symbolOf (now (rest .entry))) ⌝ }
 {
-    let end = lesser(14, rest.len());
+    let end = octets::lesser(14, rest.len());
     let mut n: usize = 0;
     while n < end {
         if 1 < symbol_at(rest, n) {
@@ -198,7 +192,7 @@ fn vector(rest: &[i32], base: usize, places: usize, top: usize) -> Picked
     }
     Picked {
         chunk: top + digits,
-        count: lesser(places, rest.len()),
+        count: octets::lesser(places, rest.len()),
         width: width,
     }
 }

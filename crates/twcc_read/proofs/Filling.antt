@@ -8,7 +8,7 @@ use native.Mathlib.Omega.{arith}
 use lib.IntN.{ℤ}
 use lib.ListN.{length, getD, take, drop, set, length-set, length-append, length-take, drop-of-length-le}
 use lib.Seq.{sets, length-sets, sets-eq, drop-cons, drop-drop, length-take-le}
-use Rattle.lent.specs.Laws.{sets-append}
+use Rattle.lent.proofs.Laws.{sets-append}
 use Rattle.twcc.specs.Words.{bytesOf, widthOf, wordOf, entries}
 use Rattle.twcc.specs.Chunks.{standsFor}
 use Rattle.twcc.specs.Block.{symbols}

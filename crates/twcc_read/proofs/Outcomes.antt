@@ -11,7 +11,7 @@ use lib.Seq.{sets, sets-eq}
 use Rattle.refusal.specs.Outcome.{Outcome, gave}
 use Rattle.refusal.specs.Number.{no}
 use Rattle.refusal.specs.declared.Refusal.{Refusal}
-use Rattle.refusal.specs.declared.Refusal.the-variants.{TooShort, Room}
+use Rattle.refusal.specs.declared.Refusal.the-variants.{Truncated, OutputTooSmall}
 use Rattle.lent.specs.After.{after}
 use Rattle.twcc.specs.Block.{statusCount, symbols, blockSymbols, listed, deltasStart}
 use Rattle.twcc.proofs.Reading.{listed-count, deltas-there}
@@ -28,7 +28,7 @@ module _ (block : List ℕ) (old : List ℤ) where
   reads-none : (r : Refusal) → no r ≡ readAnswer block (length old) → Reads block old (No r) old
   reads-none r is = record { answer = is; list = ap (λ (o : Outcome Listed). after o (listed block) old) is }
 
-  pub reads-short : (r : Refusal) → length block < 8 → r ≡ TooShort 8 (length block) → Reads block old (No r) old
+  pub reads-short : (r : Refusal) → length block < 8 → r ≡ Truncated 8 (length block) → Reads block old (No r) old
   unfolding readAnswer
   reads-short r short is = reads-none r (rw is (simp (lt-ltb _ _ short)))
 
@@ -36,11 +36,11 @@ module _ (block : List ℕ) (old : List ℤ) where
     count-listed : counts .listed ≡ length (listed block)
     count-listed = ap (λ (x : Counts). x .listed) found ∙ sym (listed-count block)
 
-    pub reads-full : length old < counts .listed → Reads block old (No (Room (counts .listed) (length old))) old
+    pub reads-full : length old < counts .listed → Reads block old (No (OutputTooSmall (counts .listed) (length old))) old
     unfolding readAnswer
     reads-full few =
         let small : length old < length (listed block) = omega (arith, count-listed) in
-        reads-none (Room (counts .listed) (length old)) (rw count-listed (simp (le-ltb _ _ long, lt-ltb _ _ small)))
+        reads-none (OutputTooSmall (counts .listed) (length old)) (rw count-listed (simp (le-ltb _ _ long, lt-ltb _ _ small)))
 
     module _ (header : Header) (head : header ≡ headerOf block) (fits : counts .listed ≤ length old) where
       pub all-fillable : AllFillable block (header .statuses) (counts .start) old

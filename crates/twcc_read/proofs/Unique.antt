@@ -3,7 +3,7 @@ use mathlib.Core.Path.{_≡_, sym, ap, _∙_}
 use mathlib.Core.List.{List}
 use Prim.Native.Nat.{ℕ}
 use lib.IntN.{ℤ}
-use Rattle.refusal.specs.Unique.{no-unique}
+use Rattle.refusal.proofs.Unique.{no-unique}
 use Rattle.twcc_read.specs.Promise.{saidReading, Reads}
 use Rattle.twcc_read.specs.declared.Listed.{Listed}
 use Rattle.twcc_read.specs.declared.Reading.{Reading}

@@ -28,7 +28,7 @@ pub fn read(block: &[u8], list: &mut [i32]) -> Reading
             let counts = twcc_cursors::count(block);
             let count = counts.listed;
             if list.len() < count {
-                return Reading::No(Refusal::Room {
+                return Reading::No(Refusal::OutputTooSmall {
                     needed: count,
                     present: list.len(),
                 });

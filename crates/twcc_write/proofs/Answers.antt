@@ -9,7 +9,7 @@ use lib.ListN.{length}
 use Rattle.refusal.specs.Outcome.{gave}
 use Rattle.refusal.specs.Number.{no}
 use Rattle.refusal.specs.declared.Refusal.{Refusal}
-use Rattle.lent.specs.After.{sets-over}
+use Rattle.lent.proofs.Laws.{sets-over}
 use Rattle.twcc_plan.specs.Block.{takenOf, sizeOf, blockBytes}
 use Rattle.twcc_plan.specs.Limits.{Within}
 use Rattle.twcc_plan.proofs.BlockLaws.{block-length}

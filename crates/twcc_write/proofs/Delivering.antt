@@ -8,7 +8,7 @@ use native.Mathlib.Omega.{arith}
 use lib.IntN.{ℤ, pos}
 use lib.ListN.{length, take, drop, set, length-append}
 use lib.Seq.{sets, drop-cons}
-use Rattle.lent.specs.Laws.{sets-append}
+use Rattle.lent.proofs.Laws.{sets-append}
 use Rattle.twcc.specs.Words.{symbolOf, bits16, bytesFor, deltaBytes, deltas}
 use Rattle.twcc.proofs.Written.{symbol-lt, length-delta}
 use Rattle.twcc_write.specs.Stores.{wordAt, DeltaStored, Storable, Stored}

@@ -11,10 +11,10 @@ use lib.IntN.{ℤ}
 use lib.ListN.{length, take, set, length-append, length-map}
 use lib.Seq.{sets, set-comm}
 use Rattle.lent.specs.Bytes.{zeroBytes}
-use Rattle.lent.specs.Laws.{sets-append}
+use Rattle.lent.proofs.Laws.{sets-append}
 use Rattle.twcc.specs.Words.{symbolOf, deltas}
 use Rattle.twcc.specs.Chunks.{chunkWord, chunkBytes}
-use Rattle.twcc.proofs.Written.{by-test}
+use Rattle.octets.proofs.Logic.{by-test}
 use Rattle.twcc_plan.specs.Limits.{upFour, Within}
 use Rattle.twcc_plan.specs.Block.{header, chunksOf, takenOf, body, usedOf, sizeOf, blockBytes}
 use Rattle.twcc_plan.proofs.BlockLaws.{length-chunks, block-planned, used-is}

@@ -10,10 +10,11 @@ use lib.Dec.{eqb}
 use lib.IntN.{ℤ, pos}
 use lib.ListN.{length, take, set, length-append, length-map, length-take}
 use lib.Seq.{sets, set-set, set-comm, take-suc, take-take, getD-take, getD-set-other}
-use Rattle.lent.specs.Laws.{sets-append}
+use Rattle.lent.proofs.Laws.{sets-append}
 use Rattle.twcc.specs.Words.{symbolOf, bits16, bytesFor, deltaBytes, deltas}
 use Rattle.twcc.specs.Chunks.{Below}
-use Rattle.twcc.proofs.Written.{by-test, symbol-lt, symbols-lt, length-delta, length-deltas}
+use Rattle.octets.proofs.Logic.{by-test}
+use Rattle.twcc.proofs.Written.{symbol-lt, symbols-lt, length-delta, length-deltas}
 use Rattle.twcc_plan.proofs.PlanLaws.{below-take, width-le}
 use Rattle.twcc_plan.proofs.BlockLaws.{take-symbols}
 use Rattle.twcc_plan.proofs.Symbols.{symbol-there}

@@ -4,7 +4,7 @@ use mathlib.Core.Path.{_≡_, sym, ap, _∙_}
 use mathlib.Core.List.{List}
 use mathlib.Core.Option.{Option}
 use lib.IntN.{ℤ}
-use Rattle.refusal.specs.Unique.{no-unique}
+use Rattle.refusal.proofs.Unique.{no-unique}
 use Rattle.twcc_write.specs.Promise.{saidWritten, Wrote}
 use Rattle.twcc_write.specs.declared.Used.{Used}
 use Rattle.twcc_write.specs.declared.Written.{Written}

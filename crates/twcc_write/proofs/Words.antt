@@ -13,7 +13,7 @@ use lib.Signed.{nonNeg}
 use mir.Syntax.{w8, w32}
 use mir.Val.{Fits, SFits}
 use Rattle.twcc.specs.Words.{half, Valid, AllValid, symbolOf, bits16}
-use Rattle.twcc.proofs.Written.{by-test}
+use Rattle.octets.proofs.Logic.{by-test}
 
 pub valid-at : (list : List ℤ) (n : ℕ) (d : ℤ) → AllValid list → n < length list → Valid (getD list n d)
 valid-at [] n d valid inside = absurd (not-suc-le-zero inside)

@@ -11,7 +11,7 @@ use twcc_plan::Limit;
 ghost use mathlib.Core.Path.{_≡_};
 ghost use mathlib.Core.List.{map};
 ghost use mathlib.Core.Bool.{cond};
-ghost use Prim.Native.Nat.{_+_, _*_, _/_, _%_, _≤_, _<_, min};
+ghost use Prim.Native.Nat.{_+_, _*_, _/_, _%_, _≤_, _<_};
 ghost use lib.Dec.{ltb, eqb};
 ghost use lib.IntN.{pos};
 ghost use lib.ListN.{length, getD, take, drop};
@@ -287,18 +287,6 @@ fn put_from(
     put_chunk(rest, chunk, entries, out, at, end)
 }
 
-fn lesser(a: usize, b: usize) -> usize
-    ensures { λ r. ⌜ r ≡ min a b ⌝ }
-{
-    if a < b { a } else { b }
-}
-
-fn wide(x: u8) -> usize
-    ensures { λ r. ⌜ (r ≡ x) × (r < 256) ⌝ }
-{
-    x as usize
-}
-
 // The delta bytes of the entries taken, chunk by chunk, up to a place `end`: the chunks stand behind the header's place.
 fn put_deltas(list: &[i32], chunks: usize, taken: usize, out: &mut [u8], end: usize)
     requires { ⌜ Carriable (now list) chunks taken (now out) end ⌝ }
@@ -308,8 +296,8 @@ fn put_deltas(list: &[i32], chunks: usize, taken: usize, out: &mut [u8], end: us
     let mut n: usize = 0;
     let mut c: usize = 0;
     while c < chunks {
-        let chunk = 256 * wide(out[8 + 2 * c]) + wide(out[9 + 2 * c]);
-        let entries = lesser(twcc::size(chunk), taken - n);
+        let chunk = 256 * octets::wide(out[8 + 2 * c]) + octets::wide(out[9 + 2 * c]);
+        let entries = octets::lesser(twcc::size(chunk), taken - n);
         p = put_from(list, n, chunk, entries, out, p, end);
         n = n + entries;
         c = c + 1;
@@ -417,23 +405,23 @@ pub fn write(
 {
     let count = time.0;
     if LATEST_TIME < count {
-        return Written::No(Refusal::Time(count));
+        return Written::No(Refusal::ReferenceTimeTooLarge(count));
     }
     if MOST_ENTRIES < list.len() {
-        return Written::No(Refusal::ListLength(list.len()));
+        return Written::No(Refusal::ListTooLong(list.len()));
     }
     let bad = twcc_plan::first_bad(list);
     if bad < list.len() {
-        return Written::No(Refusal::Word(bad));
+        return Written::No(Refusal::StatusOutOfRange(bad));
     }
     let smallest = least(limit);
     if smallest < 8 {
-        return Written::No(Refusal::Limit(smallest));
+        return Written::No(Refusal::LimitTooSmall(smallest));
     }
     let present = out.len();
     let needed = lacking(list, limit, present);
     if 0 < needed {
-        return Written::No(Refusal::Room { needed, present });
+        return Written::No(Refusal::OutputTooSmall { needed, present });
     }
     Written::Block(put_block(base, time, feedback, list, limit, out))
 }

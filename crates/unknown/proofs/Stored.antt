@@ -6,11 +6,11 @@ use native.Mathlib.Omega.{arith}
 use borrow.Author.Tests.{eq-eqb, ne-eqb}
 use lib.ListN.{length}
 use lib.Seq.{sets}
-use Rattle.lent.specs.Bytes.{be16Bytes, zeroBytes}
-use Rattle.lent.specs.After.{over, sets-over}
-use Rattle.lent.specs.Laws.{sets-append, length-zeroBytes}
-use Rattle.unknown.specs.Packet.{sizeOf, bodyBytes, padBytes, packetBytes}
-use Rattle.unknown.specs.Laws.{length-bodyBytes, length-packetBytes}
+use Rattle.octets.specs.Big.{beBytes}
+use Rattle.lent.specs.Bytes.{zeroBytes}
+use Rattle.lent.proofs.Laws.{sets-append, length-zeroBytes}
+use Rattle.unknown.specs.Packet.{bodyBytes, padBytes, packetBytes}
+use Rattle.unknown.proofs.Laws.{length-bodyBytes}
 
 -- bytes stored right behind others
 pub behind : (old now then front more : List ℕ) (at from : ℕ) → now ≡ sets old at front → from ≡ at + length front → then ≡ sets now from more
@@ -18,8 +18,8 @@ pub behind : (old now then front more : List ℕ) (at from : ℕ) → now ≡ se
 behind old now then front more at from stands end stored = stored ∙ rw (stands, end) (sets-append old at front more)
 
 -- the header's bytes one after the other, and the body
-pub head-and-body : (old then body : List ℕ) (a b w field : ℕ) → w ≡ field → then ≡ sets (sets old 0 (a ∷ b ∷ be16Bytes w)) 4 body → then ≡ sets old 0 ((a ∷ b ∷ be16Bytes field) ++ body)
-head-and-body old then body a b w field same stored = rw same at (stored ∙ sets-append old 0 (a ∷ b ∷ be16Bytes w) body)
+pub head-and-body : (old then body : List ℕ) (a b w field : ℕ) → w ≡ field → then ≡ sets (sets old 0 (a ∷ b ∷ beBytes 2 w)) 4 body → then ≡ sets old 0 ((a ∷ b ∷ beBytes 2 field) ++ body)
+head-and-body old then body a b w field same stored = rw same at (stored ∙ sets-append old 0 (a ∷ b ∷ beBytes 2 w) body)
 
 pub no-padding : (old : List ℕ) (at padding : ℕ) → padding ≡ 0 → old ≡ sets old at (padBytes padding)
 unfolding padBytes
@@ -32,9 +32,8 @@ some-padding old zeroed then at padding some zeros count =
     simp (ne-eqb padding 0 some)
     (behind old zeroed then (zeroBytes (padding - 1)) (padding ∷ []) at (at + (padding - 1)) zeros (omega (arith, length-zeroBytes (padding - 1))) count)
 
--- the whole packet over the front of the buffer
+-- the whole packet
 pub whole : (old now then body : List ℕ) (count type padding : ℕ) → now ≡ sets old 0 (bodyBytes count type body padding) → then ≡ sets now (4 + length body) (padBytes padding)
-    → sizeOf (length body) padding ≤ length old → then ≡ over (packetBytes count type body padding) old
-whole old now then body count type padding first second fits =
+    → then ≡ sets old 0 (packetBytes count type body padding)
+whole old now then body count type padding first second =
     behind old now then (bodyBytes count type body padding) (padBytes padding) 0 (4 + length body) first (omega (arith, length-bodyBytes count type body padding)) second
-    ∙ sets-over (packetBytes count type body padding) old (omega (arith, length-packetBytes count type body padding))

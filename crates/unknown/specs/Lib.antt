@@ -1,5 +1,4 @@
+pub mod Parse
 pub mod Packet
 pub mod Write
-pub mod Laws
 pub mod Back
-pub mod Unique

@@ -4,7 +4,8 @@ use mathlib.Core.List.{List, [], _∷_, _++_}
 use mathlib.Core.Bool.{cond}
 use lib.Dec.{eqb}
 use lib.ListN.{length}
-use Rattle.lent.specs.Bytes.{be16Bytes, zeroBytes}
+use Rattle.octets.specs.Big.{beBytes}
+use Rattle.lent.specs.Bytes.{zeroBytes}
 
 -- version 2 in the top two bits, the padding bit, the count
 unfoldable pub firstByte : ℕ → ℕ → ℕ
@@ -24,7 +25,7 @@ padBytes padding = cond (eqb padding 0) [] (zeroBytes (padding - 1) ++ padding �
 
 -- the packet without its padding
 unfoldable pub bodyBytes : ℕ → ℕ → List ℕ → ℕ → List ℕ
-bodyBytes count type body padding = (firstByte count padding ∷ type ∷ be16Bytes (lengthField (length body) padding)) ++ body
+bodyBytes count type body padding = (firstByte count padding ∷ type ∷ beBytes 2 (lengthField (length body) padding)) ++ body
 
 abbrev pub packetBytes : ℕ → ℕ → List ℕ → ℕ → List ℕ
 packetBytes count type body padding = bodyBytes count type body padding ++ padBytes padding

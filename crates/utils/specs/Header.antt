@@ -8,10 +8,14 @@
 use Prim.Native.Nat.{ℕ, _+_, _*_, _/_, _%_}
 use mathlib.Core.List.{List}
 use lib.ListN.{getD}
+use Rattle.octets.specs.Big.{be}
 
--- the big-endian number in the two bytes at a place
-abbrev pub be16Of : List ℕ → ℕ → ℕ
-be16Of s at = 256 * getD s at 0 + getD s (at + 1) 0
+-- the sizes of a packet: its header alone, and the most that the length field can say
+abbrev pub shortest : ℕ
+shortest = 4
+
+abbrev pub longest : ℕ
+longest = 262144
 
 -- version (V): 2 bits
 abbrev pub versionOf : List ℕ → ℕ
@@ -31,4 +35,4 @@ typeOf packet = getD packet 1 0
 
 -- length: 16 bits, "the length of this RTCP packet in 32-bit words minus one, including the header and any padding"; here in bytes
 abbrev pub lengthOf : List ℕ → ℕ
-lengthOf packet = 4 * (be16Of packet 2 + 1)
+lengthOf packet = 4 * (be 2 packet 2 + 1)

@@ -1,5 +1,3 @@
 pub mod Header
 pub mod Check
 pub mod Said
-pub mod Laws
-pub mod Unique

@@ -4,17 +4,16 @@ use refusal::Checked;
 use refusal::Number;
 use refusal::Refusal;
 ghost use mathlib.Core.Path.{_≡_};
-ghost use Prim.Native.Nat.{_≤_, _<_};
-ghost use lib.ListN.{getD};
+ghost use Prim.Native.Nat.{_≤_};
 ghost use Rattle.refusal.specs.Said.{saidChecked, saidNumber};
-ghost use Rattle.utils.specs.Header.{be16Of, versionOf, paddingBitOf, countOf, typeOf, lengthOf};
-ghost use Rattle.utils.specs.Check.{field, paddingByte, ownLength, ownPadding, checkPacket};
+ghost use Rattle.utils.specs.Header.{shortest, longest, versionOf, paddingBitOf, countOf, typeOf, lengthOf};
+ghost use Rattle.utils.specs.Check.{field, paddingByte, ownLength, checkLength, ownPadding, checkPacket};
 ghost use Rattle.utils.specs.Said.{saidPadded};
 
 // A packet is at least its header, and at most what its length field can say.
-const SHORTEST: usize = 4;
+pub const SHORTEST: usize = 4;
 
-const LONGEST: usize = 262144;
+pub const LONGEST: usize = 262144;
 
 // The padding byte, where the padding bit is set.
 pub enum Padded {
@@ -23,60 +22,35 @@ pub enum Padded {
     No(Refusal),
 }
 
-// The byte at a place, 0 past the end.
-pub fn byte_at(s: &[u8], at: usize) -> u8
-    ensures { λ r. ⌜ r ≡ getD (now (s .entry)) at 0 ⌝ }
-{
-    if at < s.len() { s[at] } else { 0 }
-}
-
-// A byte where a larger number is wanted.
-fn wide(byte: u8) -> usize
-    ensures { λ r. ⌜ (r ≡ byte) × (r < 256) ⌝ }
-{
-    byte as usize
-}
-
-// The big-endian number in the two bytes at a place.
-pub fn be16_at(s: &[u8], at: usize) -> usize
-    ensures { λ r. ⌜ (r ≡ be16Of (now (s .entry)) at) × (r < 65536) ⌝ }
-{
-    if at < s.len() {
-        256 * wide(byte_at(s, at)) + wide(byte_at(s, at + 1))
-    } else {
-        0
-    }
-}
-
 // The fields without a test: bytes that are missing count as 0.
-pub fn version_of(packet: &[u8]) -> u8
+fn version_of(packet: &[u8]) -> usize
     ensures { λ r. ⌜ r ≡ versionOf (now (packet .entry)) ⌝ }
 {
-    byte_at(packet, 0) / 64
+    octets::byte_at(packet, 0) / 64
 }
 
-pub fn padding_bit_of(packet: &[u8]) -> u8
+fn padding_bit_of(packet: &[u8]) -> usize
     ensures { λ r. ⌜ r ≡ paddingBitOf (now (packet .entry)) ⌝ }
 {
-    byte_at(packet, 0) / 32 % 2
+    octets::byte_at(packet, 0) / 32 % 2
 }
 
-pub fn count_of(packet: &[u8]) -> u8
+fn count_of(packet: &[u8]) -> usize
     ensures { λ r. ⌜ r ≡ countOf (now (packet .entry)) ⌝ }
 {
-    byte_at(packet, 0) % 32
+    octets::byte_at(packet, 0) % 32
 }
 
-pub fn type_of(packet: &[u8]) -> u8
+fn type_of(packet: &[u8]) -> usize
     ensures { λ r. ⌜ r ≡ typeOf (now (packet .entry)) ⌝ }
 {
-    byte_at(packet, 1)
+    octets::byte_at(packet, 1)
 }
 
-pub fn length_of(packet: &[u8]) -> usize
-    ensures { λ r. ⌜ (r ≡ lengthOf (now (packet .entry))) × (4 ≤ r) × (r ≤ 262144) ⌝ }
+fn length_of(packet: &[u8]) -> usize
+    ensures { λ r. ⌜ (r ≡ lengthOf (now (packet .entry))) × (shortest ≤ r) × (r ≤ longest) ⌝ }
 {
-    4 * (be16_at(packet, 2) + 1)
+    4 * (octets::be16_at(packet, 2) + 1)
 }
 
 // A field's value, where the packet has its header.
@@ -84,7 +58,7 @@ fn field_of(packet: &[u8], value: usize) -> Number
     ensures { λ r. ⌜ saidNumber r ≡ field (now (packet .entry)) value ⌝ }
 {
     if packet.len() < SHORTEST {
-        return Number::No(Refusal::TooShort {
+        return Number::No(Refusal::Truncated {
             expected: SHORTEST,
             actual: packet.len(),
         });
@@ -95,25 +69,25 @@ fn field_of(packet: &[u8], value: usize) -> Number
 pub fn parse_version(packet: &[u8]) -> Number
     ensures { λ r. ⌜ saidNumber r ≡ field (now (packet .entry)) (versionOf (now (packet .entry))) ⌝ }
 {
-    field_of(packet, wide(version_of(packet)))
+    field_of(packet, version_of(packet))
 }
 
 pub fn parse_padding_bit(packet: &[u8]) -> Number
     ensures { λ r. ⌜ saidNumber r ≡ field (now (packet .entry)) (paddingBitOf (now (packet .entry))) ⌝ }
 {
-    field_of(packet, wide(padding_bit_of(packet)))
+    field_of(packet, padding_bit_of(packet))
 }
 
 pub fn parse_count(packet: &[u8]) -> Number
     ensures { λ r. ⌜ saidNumber r ≡ field (now (packet .entry)) (countOf (now (packet .entry))) ⌝ }
 {
-    field_of(packet, wide(count_of(packet)))
+    field_of(packet, count_of(packet))
 }
 
 pub fn parse_packet_type(packet: &[u8]) -> Number
     ensures { λ r. ⌜ saidNumber r ≡ field (now (packet .entry)) (typeOf (now (packet .entry))) ⌝ }
 {
-    field_of(packet, wide(type_of(packet)))
+    field_of(packet, type_of(packet))
 }
 
 pub fn parse_length(packet: &[u8]) -> Number
@@ -127,7 +101,7 @@ pub fn parse_padding(packet: &[u8]) -> Padded
     ensures { λ r. ⌜ saidPadded r ≡ paddingByte (now (packet .entry)) ⌝ }
 {
     if packet.len() < SHORTEST {
-        return Padded::No(Refusal::TooShort {
+        return Padded::No(Refusal::Truncated {
             expected: SHORTEST,
             actual: packet.len(),
         });
@@ -137,28 +111,28 @@ pub fn parse_padding(packet: &[u8]) -> Padded
     }
     let length = length_of(packet);
     if packet.len() < length {
-        return Padded::No(Refusal::TooShort {
+        return Padded::No(Refusal::Truncated {
             expected: length,
             actual: packet.len(),
         });
     }
-    Padded::Byte(byte_at(packet, length - 1))
+    Padded::Byte(packet[length - 1])
 }
 
 // Whether a packet that has its header is as long as it says.
-pub fn check_length(packet: &[u8]) -> Checked
+fn own_length(packet: &[u8]) -> Checked
     ensures { λ r. ⌜ saidChecked r ≡ ownLength (now (packet .entry)) ⌝ }
 {
     let present = packet.len();
     let length = length_of(packet);
     if present < length {
-        return Checked::No(Refusal::TooShort {
+        return Checked::No(Refusal::Truncated {
             expected: length,
             actual: present,
         });
     }
     if length < present {
-        return Checked::No(Refusal::TooLong {
+        return Checked::No(Refusal::TooLarge {
             expected: length,
             actual: present,
         });
@@ -166,15 +140,28 @@ pub fn check_length(packet: &[u8]) -> Checked
     Checked::Fine
 }
 
+// Whether the bytes are one packet, as long as it says.
+pub fn check_length(packet: &[u8]) -> Checked
+    ensures { λ r. ⌜ saidChecked r ≡ checkLength (now (packet .entry)) ⌝ }
+{
+    if packet.len() < SHORTEST {
+        return Checked::No(Refusal::Truncated {
+            expected: SHORTEST,
+            actual: packet.len(),
+        });
+    }
+    own_length(packet)
+}
+
 // Whether a whole packet's padding byte can be right.
-fn check_padding(packet: &[u8]) -> Checked
+fn own_padding(packet: &[u8]) -> Checked
     ensures { λ r. ⌜ saidChecked r ≡ ownPadding (now (packet .entry)) ⌝ }
 {
     if padding_bit_of(packet) == 0 {
         return Checked::Fine;
     }
-    if byte_at(packet, length_of(packet) - 1) == 0 {
-        return Checked::No(Refusal::Padding);
+    if octets::byte_at(packet, length_of(packet) - 1) == 0 {
+        return Checked::No(Refusal::InvalidPadding);
     }
     Checked::Fine
 }
@@ -184,30 +171,30 @@ pub fn check_packet(packet: &[u8], least: usize, packet_type: u8) -> Checked
     ensures { λ r. ⌜ saidChecked r ≡ checkPacket (now (packet .entry)) least «packet_type» ⌝ }
 {
     if least < SHORTEST {
-        return Checked::No(Refusal::Least(least));
+        return Checked::No(Refusal::LeastLength(least));
     }
     if LONGEST < least {
-        return Checked::No(Refusal::Least(least));
+        return Checked::No(Refusal::LeastLength(least));
     }
     if packet.len() < least {
-        return Checked::No(Refusal::TooShort {
+        return Checked::No(Refusal::Truncated {
             expected: least,
             actual: packet.len(),
         });
     }
-    let version = version_of(packet);
+    let version = packet[0] / 64;
     if version != 2 {
-        return Checked::No(Refusal::Version(version));
+        return Checked::No(Refusal::UnsupportedVersion(version));
     }
-    let actual = type_of(packet);
+    let actual = packet[1];
     if actual != packet_type {
-        return Checked::No(Refusal::PacketType {
+        return Checked::No(Refusal::PacketTypeMismatch {
             actual,
             requested: packet_type,
         });
     }
-    match check_length(packet) {
+    match own_length(packet) {
         Checked::No(r) => Checked::No(r),
-        Checked::Fine => check_padding(packet),
+        Checked::Fine => own_padding(packet),
     }
 }

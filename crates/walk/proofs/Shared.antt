@@ -27,7 +27,7 @@ use denote.Laws.{Is, Tells, shows}
 use denote.Plain.{uint-makes}
 use denote.Builtin.{u8, usize}
 use denote.Exit.{Last, left, yes}
-use denote.Ref.{RefT, now}
+use denote.Ref.{RefT}
 use denote.Signature.{Slot, plain, namedLft, typesAt}
 use denote.Slice.{ShrSlice, sliceTy, slice-vals, shr-slice-tells}
 use denote.Steps.{owned, peeks, heard, nothing}
@@ -42,7 +42,7 @@ use denote.Triple.Entry.{onEntry}
 use denote.Triple.Spec.{tripleOf}
 use denote.Triple.Statement.{Contract, Triple}
 use denote.Triple.Walked.{says, Stays, stay-none, goes-none, walkOf, ends-at, walked, walk-meets}
-use Rattle.walk.specs.Promises.{Starts, Reads, Follows}
+use Rattle.walk.specs.Promises.{Starts, HandsBackPart, Follows}
 use Rattle.walk.specs.declared.Compound.{Compound}
 use Rattle.walk.proofs.Compound as T
 use Rattle.walk.proofs.Compound.Laws as T′
@@ -148,7 +148,7 @@ module _ {P : Row} (kind : Kind P) (R : Row) (φ : Fact (plain P ∷ []) R) wher
 -- ---- a covered function of bytes and offset
 -- a fact of bytes, offset and result
 abbrev pub PairFact : Row → Type 1
-PairFact R = (κs : Lfts 1) → List ℕ → ℕ → R κs .Denot → Type 0
+PairFact R = (κs : Lfts 1) → RefT (List ℕ) → ℕ → R κs .Denot → Type 0
 
 abbrev pub parts : List (Slot 1)
 parts = plain Lent ∷ plain (λ _. usize) ∷ []
@@ -161,7 +161,7 @@ values d = (slice-vals (d .bytes), (vint w64 (d .offset) ∷ [], tt))
 
 module _ (R : Row) (Q : PairFact R) where
   abbrev pub Said : Fact parts R
-  Said κs a r = Q κs (now (a .0)) (a .1 .0) r
+  Said κs a r = Q κs (a .0) (a .1 .0) r
 
   module _ {M : Type 1} (𝓤 : URA M) (H : Heap 𝓤) (A : Atoms 𝓤) where
     abbrev pub Pair : Contract 𝓤
@@ -208,7 +208,7 @@ thin callee τ = record {
 }
 
 -- Q is what the callee says, and φ what the function does
-module _ (R : Row) (Q : PairFact R) (φ : Fact (plain Held ∷ []) R) (gives : (κs : Lfts 1) (d : Compound) (r : R κs .Denot) → Q κs (now (d .bytes)) (d .offset) r → φ κs (d, tt) r) where
+module _ (R : Row) (Q : PairFact R) (φ : Fact (plain Held ∷ []) R) (gives : (κs : Lfts 1) (d : Compound) (r : R κs .Denot) → Q κs (d .bytes) (d .offset) r → φ κs (d, tt) r) where
   module _ {M : Type 1} (𝓤 : URA M) (H : Heap 𝓤) (A : Atoms 𝓤) (W : Given 𝓤 H A) (callee : Name) (τ : Ty) (typed : (κs : Lfts 1) (r : R κs .Denot) (u : Val) → Is (R κs) r (u ∷ []) → Holds (hasTy τ u) × WT u)
       (𝓣 : Tables 𝓤 H) (known : Triple 𝓤 (𝓣 .C callee) (Pair R Q 𝓤 H A)) where
     walk : (κ : Lft) (q : Share) (d : Compound) → Holds (hasTy (T′.mir (named 0)) (T′.lowered d)) × WT (T′.lowered d)
@@ -235,7 +235,7 @@ abbrev pub Made : Fact (plain Lent ∷ []) Held
 Made κs a = Starts (a .0)
 
 abbrev pub Read : Fact (plain Held ∷ []) Lent
-Read κs a = Reads (a .0)
+Read κs a = HandsBackPart (a .0)
 
 abbrev pub Moved : Fact (plain Held ∷ []) Held
 Moved κs a = Follows (a .0)

@@ -4,7 +4,7 @@ use mathlib.Core.List.{List}
 use mathlib.Core.Path.{_≡_}
 use denote.Ref.{RefT, now}
 use Rattle.compound.specs.Said.{saidWalked}
-use Rattle.compound.specs.Walk.{walkStep, walkNext, walkPart}
+use Rattle.compound.specs.Walk.{walkStep, walkNext, HandsBack}
 use Rattle.compound.specs.declared.Walked.{Walked}
 use Rattle.walk.specs.declared.Compound.{Compound}
 
@@ -17,13 +17,9 @@ abbrev pub Steps : Compound → Walked → Type 0
 Steps c w = saidWalked w ≡ walkStep (now (c .bytes)) (c .offset)
 
 -- `part`
-abbrev pub Reads : Compound → RefT (List ℕ) → Type 0
-Reads c p = now p ≡ walkPart (now (c .bytes)) (c .offset)
+abbrev pub HandsBackPart : Compound → RefT (List ℕ) → Type 0
+HandsBackPart c = HandsBack (c .bytes) (c .offset)
 
 -- `advance`: the walk holds the same bytes and is one step on
 abbrev pub Follows : Compound → Compound → Type 0
 Follows c d = (d .bytes ≡ c .bytes) × (d .offset ≡ walkNext (now (c .bytes)) (c .offset))
-
--- `second`
-abbrev pub ReadsSecond : RefT (List ℕ) → RefT (List ℕ) → Type 0
-ReadsSecond bytes p = now p ≡ walkPart (now bytes) (walkNext (now bytes) 0)

@@ -1,7 +1,7 @@
 // The walk over a compound that keeps the lent bytes with its offset (compound.rs, the iterator): thin functions over
 // compound's step.
 use compound::Walked;
-ghost use Rattle.walk.specs.Promises.{Starts, Steps, Reads, Follows, ReadsSecond};
+ghost use Rattle.walk.specs.Promises.{Starts, Steps, HandsBackPart, Follows};
 
 pub struct Compound<'a> {
     pub bytes: &'a [u8],
@@ -24,7 +24,7 @@ pub fn step<'a>(c: Compound<'a>) -> Walked
 
 // The packet at the walk's offset, as a part of the lent bytes; empty where the step finds none.
 pub fn part<'a>(c: Compound<'a>) -> &'a [u8]
-    ensures { λ p. ⌜ Reads (c .entry) p ⌝ }
+    ensures { λ p. ⌜ HandsBackPart (c .entry) p ⌝ }
 {
     compound::walk_part(c.bytes, c.offset)
 }
@@ -36,11 +36,4 @@ pub fn advance<'a>(c: Compound<'a>) -> Compound<'a>
     let bytes = c.bytes;
     let offset = compound::walk_next(bytes, c.offset);
     Compound { bytes, offset }
-}
-
-// The second packet, for callers that hold no walk.
-pub fn second(bytes: &[u8]) -> &[u8]
-    ensures { λ p. ⌜ ReadsSecond (bytes .entry) p ⌝ }
-{
-    part(advance(new(bytes)))
 }

@@ -169,6 +169,11 @@ impl<'a> Case<'a> {
         read + self.lent.map_or(0, |(before, _)| before.weight())
     }
 
+    /// How many parts of memory the call is lent.
+    pub fn parts(&self) -> usize {
+        usize::from(self.read.is_some()) + usize::from(self.lent.is_some())
+    }
+
     /// Whether its memory is large, though its line may be short.
     fn is_large(&self) -> bool {
         let lent = self.lent.map(|(before, _)| before);

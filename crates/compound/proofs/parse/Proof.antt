@@ -6,9 +6,9 @@ use borrow.Author.Needs.{needs}
 use denote.Ref.{now}
 use Rattle.refusal.specs.Outcome.{gave}
 use Rattle.utils.specs.Header.{versionOf}
-use Rattle.compound.specs.Said.{saidTurn}
+use Rattle.compound.specs.Inner.{saidTurn}
 use Rattle.compound.specs.Pass.{firstTurn}
-use Rattle.compound.specs.Laws.{turn-on, turn-short, Passing, passing-start, passing-next, passing-no, passing-end, pass-short, pass-version}
+use Rattle.compound.proofs.Laws.{turn-on, turn-short, Passing, passing-start, passing-next, passing-no, passing-end, pass-short, pass-version}
 use Rattle.compound.proofs.parse.Statement.{statement}
 use Rattle.compound.proofs.parse.Tie as tie
 
@@ -21,14 +21,13 @@ abbrev μ-loop : tie.MeasureT-loop
 returns : tie.Need-returns Inv-loop μ-loop
 returns c = sym (pass-short _ (c .if1 .taken))
 
-version-of-requires : tie.Need-version-of-requires Inv-loop μ-loop
-version-of-requires c κs = search needs
+shared-slice-read-version : tie.Need-shared-slice-read-version Inv-loop μ-loop
+shared-slice-read-version c = search needs
 
 returns-2 : tie.Need-returns-2 Inv-loop μ-loop
 returns-2 c =
     let bytes = now (c .before .before .before .before .args .bytes) in
-    let other : versionOf bytes ≡ 2 → ⊥ = λ e. c .if2 .taken (c .before .version-of .ensures ∙ e) in
-    rw (pass-version bytes (c .before .before .if1 .left) other, ← (c .before .version-of .ensures))
+    sym (pass-version bytes (c .before .before .if1 .left) (c .if2 .taken))
 
 loop-holds : tie.Need-loop-holds Inv-loop μ-loop
 loop-holds c = passing-start _ (omega arith)
@@ -59,11 +58,11 @@ returns-3 c = sym (passing-no _ _ (omega arith) (sym (c .before .before .before 
 mul-if3 : tie.Need-mul-if3 Inv-loop μ-loop
 mul-if3 c = search needs
 
-mul-t14 : tie.Need-mul-t14 Inv-loop μ-loop
-mul-t14 c = search needs
+mul-t16 : tie.Need-mul-t16 Inv-loop μ-loop
+mul-t16 c = search needs
 
-add-t15 : tie.Need-add-t15 Inv-loop μ-loop
-add-t15 c = search needs
+add-t17 : tie.Need-add-t17 Inv-loop μ-loop
+add-t17 c = search needs
 
 returns-4 : tie.Need-returns-4 Inv-loop μ-loop
 returns-4 c = sym (passing-no _ _ (c .if3 .taken) (turn-short _ _ (omega arith)) (c .before .before .loop .inv))
@@ -78,7 +77,7 @@ parse-spec =
     Inv-loop
     μ-loop
     returns
-    version-of-requires
+    shared-slice-read-version
     returns-2
     loop-holds
     turn-at-requires
@@ -88,7 +87,7 @@ parse-spec =
     enum-known-r
     returns-3
     mul-if3
-    mul-t14
-    add-t15
+    mul-t16
+    add-t17
     returns-4
     returns-5)

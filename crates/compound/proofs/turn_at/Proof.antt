@@ -4,7 +4,7 @@ use mathlib.Core.Path.{_≡_, sym}
 use native.Mathlib.Omega.{arith}
 use denote.Ref.{now}
 use Rattle.compound.specs.Pass.{endOf}
-use Rattle.compound.specs.Laws.{turn-past, turn-plain, turn-padded, turn-last}
+use Rattle.compound.proofs.Laws.{turn-past, turn-plain, turn-padded, turn-last}
 use borrow.Author.Needs.{needs}
 use Rattle.compound.proofs.turn_at.Statement.{statement}
 use Rattle.compound.proofs.turn_at.Tie as tie

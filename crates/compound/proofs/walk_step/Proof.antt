@@ -2,7 +2,7 @@
 use mathlib.Core.Path.{sym}
 use native.Mathlib.Omega.{arith}
 use denote.Ref.{now}
-use Rattle.compound.specs.Laws.{walk-over, walk-short, walk-past, walk-other, walk-whole}
+use Rattle.compound.proofs.Laws.{walk-over, walk-short, walk-past, walk-other, walk-whole}
 use borrow.Author.Needs.{needs}
 use Rattle.compound.proofs.walk_step.Statement.{statement}
 use Rattle.compound.proofs.walk_step.Tie as tie
@@ -47,6 +47,9 @@ returns-4 c =
     let a = c .before .before .before .before .before .before .before .args in
     sym (walk-other (now (a .bytes)) _ _ (c .before .before .before .words-behind .ensures .ends) (omega arith) (omega arith) (c .if4 .taken))
 
+sub-t9 : tie.Need-sub-t9
+sub-t9 c = search needs
+
 returns-5 : tie.Need-returns-5
 returns-5 c =
     let a = c .before .before .before .before .before .before .before .args in
@@ -68,4 +71,5 @@ walk-step-spec =
     returns-3
     shared-slice-read-version
     returns-4
+    sub-t9
     returns-5)

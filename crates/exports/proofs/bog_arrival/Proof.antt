@@ -20,6 +20,9 @@ enum-known-tick c = search needs
 bits-requires : tie.Need-bits-requires
 bits-requires c κs = search needs
 
+one-requires : tie.Need-one-requires
+one-requires c κs = search needs
+
 enum-known-r : tie.Need-enum-known-r
 enum-known-r c = search needs
 
@@ -28,7 +31,7 @@ refused-requires c κs = search needs
 
 returns : tie.Need-returns
 unfolding saidOf signed
-returns c = rw (sym (comes (c .before .before .before .before)) ∙ ap saidArrived (c .before .before .tick .given .1), c .bits .ensures)
+returns c = rw (sym (comes (c .before .before .before .before .before)) ∙ ap saidArrived (c .before .before .before .tick .given .1), ← (c .before .bits .ensures)) (c .one .ensures)
 
 returns-2 : tie.Need-returns-2
 unfolding signed
@@ -41,6 +44,7 @@ bog-arrival-spec =
     arrival-requires
     enum-known-tick
     bits-requires
+    one-requires
     enum-known-r
     refused-requires
     returns

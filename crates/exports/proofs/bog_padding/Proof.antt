@@ -12,11 +12,17 @@ parse-padding-requires c κs = search needs
 enum-told : tie.Need-enum-told
 enum-told c = search needs
 
+one-requires : tie.Need-one-requires
+one-requires c κs = search needs
+
 enum-known-byte : tie.Need-enum-known-byte
 enum-known-byte c = search needs
 
-cast-t7 : tie.Need-cast-t7
-cast-t7 c = search needs
+cast-two : tie.Need-cast-two
+cast-two c = search needs
+
+two-requires : tie.Need-two-requires
+two-requires c κs = search needs
 
 enum-known-r : tie.Need-enum-known-r
 enum-known-r c = search needs
@@ -26,11 +32,11 @@ refused-requires c κs = search needs
 
 returns : tie.Need-returns
 unfolding saidOf padding
-returns c = rw (sym (c .before .before .parse-padding .ensures) ∙ ap saidPadded (c .enum-told .given .1))
+returns c = rw (sym (c .before .before .before .parse-padding .ensures) ∙ ap saidPadded (c .before .enum-told .given .1)) (c .one .ensures)
 
 returns-2 : tie.Need-returns-2
 unfolding saidOf padding
-returns-2 c = rw (sym (c .before .before .before .parse-padding .ensures) ∙ ap saidPadded (c .before .byte .given .1))
+returns-2 c = rw (sym (c .before .before .before .before .parse-padding .ensures) ∙ ap saidPadded (c .before .before .byte .given .1)) (c .two .ensures)
 
 returns-3 : tie.Need-returns-3
 unfolding padding
@@ -42,8 +48,10 @@ bog-padding-spec =
     (tie.spec
     parse-padding-requires
     enum-told
+    one-requires
     enum-known-byte
-    cast-t7
+    cast-two
+    two-requires
     enum-known-r
     refused-requires
     returns

@@ -14,17 +14,20 @@ read-requires c κs = search needs
 enum-known-listed : tie.Need-enum-known-listed
 enum-known-listed c = search needs
 
-cast-t13 : tie.Need-cast-t13
-cast-t13 c = search needs
+cast-five : tie.Need-cast-five
+cast-five c = search needs
 
-cast-t14 : tie.Need-cast-t14
-cast-t14 c = search needs
+cast-five-2 : tie.Need-cast-five-2
+cast-five-2 c = search needs
 
-cast-t15 : tie.Need-cast-t15
-cast-t15 c = search needs
+cast-five-3 : tie.Need-cast-five-3
+cast-five-3 c = search needs
 
-cast-t16 : tie.Need-cast-t16
-cast-t16 c = search needs
+cast-five-4 : tie.Need-cast-five-4
+cast-five-4 c = search needs
+
+five-requires : tie.Need-five-requires
+five-requires c κs = search needs
 
 enum-known-r : tie.Need-enum-known-r
 enum-known-r c = search needs
@@ -38,8 +41,11 @@ same-length c = search needs
 returns : tie.Need-returns
 unfolding saidOf listedBlock
 returns c =
-    let read = c .before .before .before .before .before .before .before .before .before .before .before .read in
-    record { said = ap (λ (o : Outcome Listed). saidOf (listedBlock o)) (sym (ap saidReading (c .before .before .before .before .before .before .before .before .listed .given .1)) ∙ read .ensures .answer); holds = read .ensures .list }
+    let read = c .before .before .before .before .before .before .before .before .before .before .before .before .read in
+    record {
+      said = c .five .ensures ∙ ap (λ (o : Outcome Listed). saidOf (listedBlock o)) (sym (ap saidReading (c .before .before .before .before .before .before .before .before .before .listed .given .1)) ∙ read .ensures .answer);
+      holds = read .ensures .list;
+    }
 
 same-length-2 : tie.Need-same-length-2
 same-length-2 c = search needs
@@ -59,10 +65,11 @@ bog-twcc-read-spec =
     (tie.spec
     read-requires
     enum-known-listed
-    cast-t13
-    cast-t14
-    cast-t15
-    cast-t16
+    cast-five
+    cast-five-2
+    cast-five-3
+    cast-five-4
+    five-requires
     enum-known-r
     refused-requires
     same-length

@@ -13,7 +13,7 @@ same-length : tie.Need-same-length
 same-length c = search needs
 
 returns : tie.Need-returns
-returns c = record { said = cc; holds = c .before .before .before .write .ensures .holds }
+returns c = record { said = cc (c .before .before .before .write .ensures .answer); holds = c .before .before .before .write .ensures .memory }
 
 pub bog-unknown-write-spec : {M : Type 1} → statement M
 bog-unknown-write-spec =

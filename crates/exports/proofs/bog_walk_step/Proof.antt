@@ -1,10 +1,8 @@
--- By what the step found; a packet ends where it starts or behind.
+-- By what the step found.
 use mathlib.Core.Path.{_≡_, sym, ap, _∙_}
-use native.Mathlib.Omega.{arith}
 use denote.Ref.{now}
 use Rattle.compound.specs.Walk.{step, walkStep}
 use Rattle.compound.specs.Said.{saidFound}
-use Rattle.compound.specs.Laws.{walk-packet}
 use Rattle.compound.specs.declared.Found.{Found}
 use Rattle.exports.specs.Says.{saidOf, walk}
 use borrow.Author.Needs.{needs}
@@ -22,11 +20,14 @@ walk-step-requires c κs = search needs
 enum-told : tie.Need-enum-told
 enum-told c = search needs
 
-sub-t11 : tie.Need-sub-t11
-sub-t11 c = omega (arith, walk-packet _ _ _ (as-found (c .before .before) (c .enum-told .given .1)))
+four-requires : tie.Need-four-requires
+four-requires c κs = search needs
 
 enum-told-2 : tie.Need-enum-told-2
 enum-told-2 c = search needs
+
+two-requires : tie.Need-two-requires
+two-requires c κs = search needs
 
 enum-known-found : tie.Need-enum-known-found
 enum-known-found c = search needs
@@ -36,11 +37,11 @@ refused-requires c κs = search needs
 
 returns : tie.Need-returns
 unfolding saidOf walk
-returns c = rw (as-found (c .before .before) (c .enum-told .given .1))
+returns c = rw (as-found (c .before .before .before) (c .before .enum-told .given .1)) (c .four .ensures)
 
 returns-2 : tie.Need-returns-2
 unfolding saidOf walk
-returns-2 c = rw (as-found (c .before .before) (c .enum-told2 .given .1))
+returns-2 c = rw (as-found (c .before .before .before) (c .before .enum-told2 .given .1)) (c .two .ensures)
 
 returns-3 : tie.Need-returns-3
 unfolding walk
@@ -52,8 +53,9 @@ bog-walk-step-spec =
     (tie.spec
     walk-step-requires
     enum-told
-    sub-t11
+    four-requires
     enum-told-2
+    two-requires
     enum-known-found
     refused-requires
     returns

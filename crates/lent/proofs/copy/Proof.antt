@@ -5,7 +5,7 @@ use native.Mathlib.Omega.{arith}
 use lib.ListN.{length}
 use denote.Ref.{now}
 use Rattle.lent.specs.Bytes.{fitting}
-use Rattle.lent.specs.Laws.{sets-fitting}
+use Rattle.lent.proofs.Laws.{sets-fitting}
 use borrow.Author.Needs.{needs}
 use Rattle.lent.proofs.copy.Statement.{statement}
 use Rattle.lent.proofs.copy.Tie as tie

@@ -1,5 +1,6 @@
 -- What is left of the bytes, stored from here, makes the whole.
 use Prim.Native.Nat.{_-_}
+use mathlib.Core.Path.{sym}
 use borrow.Author.Needs.{needs}
 use lib.ListN.{take}
 use lib.Seq.{length-take-le, getD-take}
@@ -35,7 +36,7 @@ loop-again : tie.Need-loop-again Inv-loop μ-loop
 loop-again c =
     let l = c .before .before .loop in
     let more = c .before .loop-test .taken in
-    storing-turn _ (getD-take _ _ _ 0 more) more (l .inv)
+    storing-turn _ 0 (sym (getD-take _ _ _ 0 more)) more (l .inv)
 
 same-length : tie.Need-same-length Inv-loop μ-loop
 same-length c = search needs

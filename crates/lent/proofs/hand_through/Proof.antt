@@ -3,7 +3,7 @@ use mathlib.Core.Path.{_∙_}
 use lib.ListN.{take}
 use lib.Seq.{length-take-le}
 use denote.Ref.{now}
-use Rattle.lent.specs.Laws.{copy-through}
+use Rattle.lent.proofs.Laws.{copy-through}
 use borrow.Author.Needs.{needs}
 use Rattle.lent.proofs.hand_through.Statement.{statement}
 use Rattle.lent.proofs.hand_through.Tie as tie

@@ -1,9 +1,9 @@
 -- Two bytes, one behind the other; past the end both fall away.
 use mathlib.Core.Path.{refl, sym}
 use denote.Ref.{now}
-use Rattle.lent.specs.Bytes.{be16Bytes}
+use Rattle.octets.specs.Big.{beBytes}
 use native.Mathlib.Numerals.{add-one}
-use Rattle.lent.specs.Laws.{sets-past}
+use Rattle.lent.proofs.Laws.{sets-past}
 use borrow.Author.Needs.{needs}
 use Rattle.lent.proofs.put16.Statement.{statement}
 use Rattle.lent.proofs.put16.Tie as tie
@@ -30,7 +30,7 @@ returns : tie.Need-returns
 returns c = rw (c .before .before .put2 .ensures, c .before .before .before .before .before .before .put .ensures, add-one) refl
 
 returns-2 : tie.Need-returns-2
-returns-2 c = sym (sets-past (now (c .before .before .args .out)) _ (be16Bytes (c .before .before .args .number)) (c .if1 .left))
+returns-2 c = sym (sets-past (now (c .before .before .args .out)) _ (beBytes 2 (c .before .before .args .number)) (c .if1 .left))
 
 pub put16-spec : {M : Type 1} → statement M
 put16-spec =

@@ -1,10 +1,10 @@
 -- What is left of the zeros, stored from here, makes the whole.
 use Prim.Native.Nat.{_-_}
-use mathlib.Core.Path.{_∙_}
+use mathlib.Core.Path.{sym, _∙_}
 use denote.Ref.{now}
 use borrow.Author.Needs.{needs}
 use Rattle.lent.specs.Bytes.{zeroBytes}
-use Rattle.lent.specs.Laws.{length-zeroBytes, getD-zeroBytes, sets-zeros}
+use Rattle.lent.proofs.Laws.{length-zeroBytes, getD-zeroBytes, sets-zeros}
 use Rattle.lent.proofs.Storing.{Storing, storing-start, storing-turn, storing-over}
 use Rattle.lent.proofs.zeros.Statement.{statement}
 use Rattle.lent.proofs.zeros.Tie as tie
@@ -36,7 +36,7 @@ loop-less c = search needs
 loop-again : tie.Need-loop-again Inv-loop μ-loop
 loop-again c =
     let l = c .before .loop in
-    storing-turn 0 (getD-zeroBytes (l .j) _) (c .loop-test .taken) (l .inv)
+    storing-turn 0 0 (sym (getD-zeroBytes (l .j) _)) (c .loop-test .taken) (l .inv)
 
 same-length : tie.Need-same-length Inv-loop μ-loop
 same-length c = search needs

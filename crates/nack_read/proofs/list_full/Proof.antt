@@ -48,7 +48,7 @@ loop-again c =
     let n = c .before .before .before .before .args .number .0 in
     let next : suc n + l .j ≡ n + (l .j + 1) = omega arith in
     let stands : getD (run (suc n) 16) (l .j) 0 ≡ c .after .result .0 = getD-run (suc n) 16 (l .j) (c .before .loop-test .taken) ∙ ap (λ (m : ℕ). m % 65536) next ∙ sym (c .after .ensures) in
-    storing-turn _ stands (c .before .loop-test .taken) (l .inv)
+    storing-turn _ 0 (sym stands) (c .before .loop-test .taken) (l .inv)
 
 same-length : tie.Need-same-length Inv-loop μ-loop
 same-length c = c .before .loop .inv .same

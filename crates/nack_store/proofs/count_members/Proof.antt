@@ -4,12 +4,12 @@ use denote.Ref.{now}
 use lib.ListN.{getD}
 use native.Mathlib.Omega.{arith}
 use lib.Count.{ones, ones-le}
-use Rattle.nack_store.proofs.Counting.{Counting, counting-start, counting-turn, counting-over}
+use Rattle.nack_store.proofs.Tallying.{Tallying, tallying-start, tallying-turn, tallying-over}
 use Rattle.nack_store.proofs.count_members.Statement.{statement}
 use Rattle.nack_store.proofs.count_members.Tie as tie
 
 abbrev Inv-loop : tie.InvT-loop
-Inv-loop store found₀ at₀ found at = Counting store found at
+Inv-loop store found₀ at₀ found at = Tallying store found at
 
 abbrev μ-loop : tie.MeasureT-loop
 μ-loop store found₀ at₀ found at = 8192 - at
@@ -22,7 +22,7 @@ few : (c : tie.After-shared-slice-known Inv-loop μ-loop) → ones (getD (now (c
 few c = ones-le 8 _ (byte c)
 
 loop-holds : tie.Need-loop-holds Inv-loop μ-loop
-loop-holds c = counting-start _
+loop-holds c = tallying-start _
 
 shared-slice-read-found : tie.Need-shared-slice-read-found Inv-loop μ-loop
 shared-slice-read-found c = omega arith
@@ -40,10 +40,10 @@ loop-less : tie.Need-loop-less Inv-loop μ-loop
 loop-less c = omega arith
 
 loop-again : tie.Need-loop-again Inv-loop μ-loop
-loop-again c = counting-turn (byte c) (omega arith) (c .before .before .loop .inv)
+loop-again c = tallying-turn (byte c) (omega arith) (c .before .before .loop .inv)
 
 returns : tie.Need-returns Inv-loop μ-loop
-returns c = counting-over (omega arith) (c .before .loop .inv)
+returns c = tallying-over (omega arith) (c .before .loop .inv)
 
 pub count-members-spec : {M : Type 1} → statement M
 count-members-spec =

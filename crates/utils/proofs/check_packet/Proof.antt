@@ -21,29 +21,29 @@ returns-3 : tie.Need-returns-3
 unfolding checkPacket
 returns-3 c = simp (le-ltb _ _ (c .before .before .if1 .left), le-ltb _ _ (c .before .if2 .left), lt-ltb _ _ (c .if3 .taken))
 
-version-of-requires : tie.Need-version-of-requires
-version-of-requires c κs = search needs
+shared-slice-read-version : tie.Need-shared-slice-read-version
+shared-slice-read-version c = search needs
 
 returns-4 : tie.Need-returns-4
 unfolding checkPacket
-returns-4 c = simp (le-ltb _ _ (c .before .before .before .before .if1 .left), le-ltb _ _ (c .before .before .before .if2 .left), le-ltb _ _ (c .before .before .if3 .left), ← (c .before .version-of .ensures), ne-eqb _ _ (c .if4 .taken))
+returns-4 c = simp (le-ltb _ _ (c .before .before .before .before .if1 .left), le-ltb _ _ (c .before .before .before .if2 .left), le-ltb _ _ (c .before .before .if3 .left), ne-eqb _ _ (c .if4 .taken))
 
-type-of-requires : tie.Need-type-of-requires
-type-of-requires c κs = search needs
+shared-slice-read-actual : tie.Need-shared-slice-read-actual
+shared-slice-read-actual c = search needs
 
 returns-5 : tie.Need-returns-5
 unfolding checkPacket
-returns-5 c = simp (le-ltb _ _ (c .before .before .before .before .before .before .if1 .left), le-ltb _ _ (c .before .before .before .before .before .if2 .left), le-ltb _ _ (c .before .before .before .before .if3 .left), ← (c .before .before .before .version-of .ensures), eq-eqb _ _ (c .before .before .if4 .left), ← (c .before .type-of .ensures), ne-eqb _ _ (c .if5 .taken))
+returns-5 c = simp (le-ltb _ _ (c .before .before .before .before .before .before .if1 .left), le-ltb _ _ (c .before .before .before .before .before .if2 .left), le-ltb _ _ (c .before .before .before .before .if3 .left), eq-eqb _ _ (c .before .before .if4 .left), ne-eqb _ _ (c .if5 .taken))
 
 -- what is left to test once the type is right
 rest : (c : tie.Else5)
     → checkPacket (now (c .before .before .before .before .before .before .before .before .args .packet)) (c .before .before .before .before .before .before .before .before .args .least) (c .before .before .before .before .before .before .before .before .args .packet-type)
     ≡ andThen (ownLength (now (c .before .before .before .before .before .before .before .before .args .packet))) (λ _. ownPadding (now (c .before .before .before .before .before .before .before .before .args .packet)))
 unfolding checkPacket
-rest c = simp (le-ltb _ _ (c .before .before .before .before .before .before .if1 .left), le-ltb _ _ (c .before .before .before .before .before .if2 .left), le-ltb _ _ (c .before .before .before .before .if3 .left), ← (c .before .before .before .version-of .ensures), eq-eqb _ _ (c .before .before .if4 .left), ← (c .before .type-of .ensures), eq-eqb _ _ (c .if5 .left))
+rest c = simp (le-ltb _ _ (c .before .before .before .before .before .before .if1 .left), le-ltb _ _ (c .before .before .before .before .before .if2 .left), le-ltb _ _ (c .before .before .before .before .if3 .left), eq-eqb _ _ (c .before .before .if4 .left), eq-eqb _ _ (c .if5 .left))
 
-check-length-requires : tie.Need-check-length-requires
-check-length-requires c κs = search needs
+own-length-requires : tie.Need-own-length-requires
+own-length-requires c κs = search needs
 
 enum-known-r : tie.Need-enum-known-r
 enum-known-r c = search needs
@@ -51,18 +51,18 @@ enum-known-r c = search needs
 enum-told : tie.Need-enum-told
 enum-told c = search needs
 
-check-padding-requires : tie.Need-check-padding-requires
-check-padding-requires c κs = search needs
+own-padding-requires : tie.Need-own-padding-requires
+own-padding-requires c κs = search needs
 
 returns-6 : tie.Need-returns-6
 returns-6 c =
     let at = c .before .before .before in
-    rw (rest (at .before), sym (at .check-length .ensures) ∙ ap saidChecked (c .before .r .given .1))
+    rw (rest (at .before), sym (at .own-length .ensures) ∙ ap saidChecked (c .before .r .given .1))
 
 returns-7 : tie.Need-returns-7
 returns-7 c =
     let at = c .before .before .before in
-    rw (rest (at .before), sym (at .check-length .ensures) ∙ ap saidChecked (c .before .enum-told .given .1)) (c .check-padding .ensures)
+    rw (rest (at .before), sym (at .own-length .ensures) ∙ ap saidChecked (c .before .enum-told .given .1)) (c .own-padding .ensures)
 
 pub check-packet-spec : {M : Type 1} → statement M
 check-packet-spec =
@@ -71,13 +71,13 @@ check-packet-spec =
     returns
     returns-2
     returns-3
-    version-of-requires
+    shared-slice-read-version
     returns-4
-    type-of-requires
+    shared-slice-read-actual
     returns-5
-    check-length-requires
+    own-length-requires
     enum-known-r
     enum-told
-    check-padding-requires
+    own-padding-requires
     returns-6
     returns-7)

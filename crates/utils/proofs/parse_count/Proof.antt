@@ -6,9 +6,6 @@ use Rattle.utils.proofs.parse_count.Tie as tie
 count-of-requires : tie.Need-count-of-requires
 count-of-requires c κs = search needs
 
-wide-requires : tie.Need-wide-requires
-wide-requires c κs = search needs
-
 field-of-requires : tie.Need-field-of-requires
 field-of-requires c κs = search needs
 
@@ -16,4 +13,4 @@ returns : tie.Need-returns
 returns c = cc
 
 pub parse-count-spec : {M : Type 1} → statement M
-parse-count-spec = tie.close (tie.spec count-of-requires wide-requires field-of-requires returns)
+parse-count-spec = tie.close (tie.spec count-of-requires field-of-requires returns)

@@ -6,9 +6,6 @@ use Rattle.utils.proofs.parse_packet_type.Tie as tie
 type-of-requires : tie.Need-type-of-requires
 type-of-requires c κs = search needs
 
-wide-requires : tie.Need-wide-requires
-wide-requires c κs = search needs
-
 field-of-requires : tie.Need-field-of-requires
 field-of-requires c κs = search needs
 
@@ -17,4 +14,4 @@ returns c = cc
 
 pub parse-packet-type-spec : {M : Type 1} → statement M
 parse-packet-type-spec =
-    tie.close (tie.spec type-of-requires wide-requires field-of-requires returns)
+    tie.close (tie.spec type-of-requires field-of-requires returns)

@@ -23,15 +23,15 @@ returns-3 : tie.Need-returns-3
 unfolding paddingByte
 returns-3 c = simp (le-ltb _ _ (c .before .before .before .before .if1 .left), ← (c .before .before .before .padding-bit-of .ensures), ne-eqb _ _ (c .before .before .if2 .left), ← (c .before .length-of .ensures .0), lt-ltb _ _ (c .if3 .taken))
 
-sub-byte-at : tie.Need-sub-byte-at
-sub-byte-at c = search needs
+sub-t3 : tie.Need-sub-t3
+sub-t3 c = search needs
 
-byte-at-requires : tie.Need-byte-at-requires
-byte-at-requires c κs = search needs
+shared-slice-read-t10 : tie.Need-shared-slice-read-t10
+shared-slice-read-t10 c = search needs
 
 returns-4 : tie.Need-returns-4
 unfolding paddingByte
-returns-4 c = simp (le-ltb _ _ (c .before .before .before .before .before .if1 .left), ← (c .before .before .before .before .padding-bit-of .ensures), ne-eqb _ _ (c .before .before .before .if2 .left), ← (c .before .before .length-of .ensures .0), le-ltb _ _ (c .before .if3 .left), ← (c .byte-at .ensures))
+returns-4 c = simp (le-ltb _ _ (c .before .before .before .before .before .if1 .left), ← (c .before .before .before .before .padding-bit-of .ensures), ne-eqb _ _ (c .before .before .before .if2 .left), ← (c .before .before .length-of .ensures .0), le-ltb _ _ (c .before .if3 .left))
 
 pub parse-padding-spec : {M : Type 1} → statement M
 parse-padding-spec =
@@ -42,6 +42,6 @@ parse-padding-spec =
     returns-2
     length-of-requires
     returns-3
-    sub-byte-at
-    byte-at-requires
+    sub-t3
+    shared-slice-read-t10
     returns-4)

@@ -6,9 +6,6 @@ use Rattle.utils.proofs.parse_padding_bit.Tie as tie
 padding-bit-of-requires : tie.Need-padding-bit-of-requires
 padding-bit-of-requires c κs = search needs
 
-wide-requires : tie.Need-wide-requires
-wide-requires c κs = search needs
-
 field-of-requires : tie.Need-field-of-requires
 field-of-requires c κs = search needs
 
@@ -17,4 +14,4 @@ returns c = cc
 
 pub parse-padding-bit-spec : {M : Type 1} → statement M
 parse-padding-bit-spec =
-    tie.close (tie.spec padding-bit-of-requires wide-requires field-of-requires returns)
+    tie.close (tie.spec padding-bit-of-requires field-of-requires returns)

@@ -6,9 +6,6 @@ use Rattle.utils.proofs.parse_version.Tie as tie
 version-of-requires : tie.Need-version-of-requires
 version-of-requires c κs = search needs
 
-wide-requires : tie.Need-wide-requires
-wide-requires c κs = search needs
-
 field-of-requires : tie.Need-field-of-requires
 field-of-requires c κs = search needs
 
@@ -17,4 +14,4 @@ returns c = cc
 
 pub parse-version-spec : {M : Type 1} → statement M
 parse-version-spec =
-    tie.close (tie.spec version-of-requires wide-requires field-of-requires returns)
+    tie.close (tie.spec version-of-requires field-of-requires returns)

@@ -45,7 +45,7 @@ abbrev R : Row
 R κs = usize
 
 abbrev Next : PairFact R
-Next κs bytes at next = next ≡ walkNext bytes at
+Next κs bytes at next = next ≡ walkNext (now bytes) at
 
 module _ {M : Type 1} (𝓤 : URA M) (H : Heap 𝓤) (A : Atoms 𝓤) (W : Given 𝓤 H A) (κ : Lft) (q : Share) (c : Compound) where
   abbrev D : Declared

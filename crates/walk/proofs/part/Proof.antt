@@ -1,13 +1,11 @@
 -- The struct's fields are handed on to compound's part function.
-use mathlib.Core.Path.{_≡_}
 use mir.Syntax.{named, imm, w8, tyInt, tyRef}
 use contract.Running.{givenOf, tables, tablesOf}
 use denote.Builtin.{u8}
-use denote.Ref.{now}
 use denote.Slice.{sliceTy, shr-slice-lawful}
 use denote.Triple.Spec.{tripleOf}
 use denote.Triple.Table.{entered, cited}
-use Rattle.compound.specs.Walk.{walkPart}
+use Rattle.compound.specs.Walk.{HandsBack}
 use Rattle.compound.proofs.walk_part.Symbol as walk-part
 use Rattle.compound.proofs.walk_part.Met as walk-part-thm
 use Rattle.walk.proofs.Shared.{Lent, PairFact, Pair, Read, thin-meets}
@@ -17,7 +15,7 @@ use Rattle.walk.proofs.part.Statement as stated
 use Rattle.walk.proofs.part.Code as code
 
 abbrev Q : PairFact Lent
-Q κs bytes at p = now p ≡ walkPart bytes at
+Q κs = HandsBack
 
 pub part-spec : {M : Type 1} → stated.statement M
 unfolding code.routine tablesOf

@@ -1,6 +1,7 @@
 -- The struct's fields are handed on to compound's step.
 use mathlib.Core.Path.{_≡_}
 use contract.Running.{givenOf, tables, tablesOf}
+use denote.Ref.{now}
 use denote.Struct.Laws as LL
 use denote.Triple.Spec.{tripleOf}
 use denote.Triple.Table.{entered, cited}
@@ -21,7 +22,7 @@ abbrev R : Row
 R κs = W.the-row
 
 abbrev Q : PairFact R
-Q κs bytes at w = saidWalked w ≡ walkStep bytes at
+Q κs bytes at w = saidWalked w ≡ walkStep (now bytes) at
 
 pub step-spec : {M : Type 1} → stated.statement M
 unfolding code.routine tablesOf

@@ -7,7 +7,7 @@ use borrow.Author.Needs.{needs}
 use Rattle.compound.specs.Walk.{step}
 use Rattle.compound.specs.Said.{saidFound}
 use Rattle.compound.specs.declared.Found.{Found}
-use Rattle.compound.specs.Laws.{Turned, walk-packet}
+use Rattle.compound.proofs.Laws.{Turned, walk-packet}
 use Rattle.bogslipper.proofs.packets.walk.Statement.{statement}
 use Rattle.bogslipper.proofs.packets.walk.Tie as tie
 
@@ -49,9 +49,9 @@ returns-2 c = search needs
 
 moved : (c : tie.After-packet Inv-loop μ-loop) → Turned (c .before .before .before .before .before .before .before .before .args .bytes .now) (c .before .before .before .before .before .before .loop .at) (c .before .before .before .before .walk-step .result .next)
 moved c =
-    walk-packet _ _ _
+    walk-packet _ _ _ _
     (sym (c .before .before .before .before .walk-step .ensures)
-    ∙ ap (λ (f : Found). step (saidFound f) (c .before .before .before .before .walk-step .result .next)) (c .before .before .enum-told .given .1))
+    ∙ ap (λ (f : Found). step (saidFound f) (c .before .before .before .before .walk-step .result .next)) (c .before .before .enum-told .given .1)) .turned
 
 loop-less : tie.Need-loop-less Inv-loop μ-loop
 loop-less c = let m = moved c in omega arith

@@ -1,4 +1,4 @@
--- There are six at most.
+-- There are nine at most.
 use Prim.Native.Nat.{_-_}
 use borrow.Author.Needs.{needs}
 use Rattle.replay.proofs.number.numbers_at.Statement.{statement}
@@ -8,7 +8,7 @@ abbrev Inv-loop : tie.InvT-loop
 Inv-loop s from count₀ at₀ count at = Unit {0}
 
 abbrev μ-loop : tie.MeasureT-loop
-μ-loop s from count₀ at₀ count at = 6 - count
+μ-loop s from count₀ at₀ count at = 9 - count
 
 loop-holds : tie.Need-loop-holds Inv-loop μ-loop
 loop-holds c = search needs

@@ -1,0 +1,3 @@
+pub mod Laws
+pub mod Packets
+pub mod Unique

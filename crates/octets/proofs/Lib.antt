@@ -1,0 +1,4 @@
+pub mod Logic
+pub mod Big
+pub mod Sign
+pub mod Unique
