@@ -4,7 +4,7 @@ use kinds::Tick;
 use refusal::Refusal;
 use twcc::LATEST_TIME;
 ghost use mathlib.Core.Path.{_≡_};
-ghost use Rattle.refusal.specs.Told.{bits64};
+ghost use Rattle.octets.specs.Signed.{bits64};
 ghost use Rattle.arrival.specs.Arrival.{saidArrived, arrivalOf};
 
 pub enum Arrived {
@@ -24,21 +24,9 @@ pub fn arrival(time: RefTime, delta: i16) -> Arrived
     Arrived::At(Tick(start + (delta as i64)))
 }
 
-// A signed number in two's complement.
-fn two_complement(t: i64) -> u64
-    ensures { λ r. ⌜ r ≡ bits64 t ⌝ }
-{
-    if t < 0 {
-        let k = (-1 - t) as u64;
-        18446744073709551615 - k
-    } else {
-        t as u64
-    }
-}
-
 // A tick in two's complement, for callers that take plain unsigned numbers.
 pub fn bits(tick: Tick) -> u64
     ensures { λ r. ⌜ r ≡ bits64 (tick .0) ⌝ }
 {
-    two_complement(tick.0)
+    octets::bits64(tick.0)
 }

@@ -56,7 +56,9 @@ impl Header {
         }
         let base = joined(octets::byte_at(block, 0), octets::byte_at(block, 1));
         let statuses = joined(octets::byte_at(block, 2), octets::byte_at(block, 3));
-        let time = 65536 * octets::byte_at(block, 4) + 256 * octets::byte_at(block, 5) + octets::byte_at(block, 6);
+        let time = 65536 * octets::byte_at(block, 4)
+            + 256 * octets::byte_at(block, 5)
+            + octets::byte_at(block, 6);
         let feedback = octets::byte_at(block, 7);
         Headed::Header(Header {
             base: Seq(base as u16),
