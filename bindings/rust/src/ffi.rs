@@ -20,7 +20,6 @@ pub struct Said {
     pub values: [u64; 8],
 }
 
-#[allow(missing_docs)]
 extern "C" {
     // header fields and the check of one packet
     pub fn bog_version(data: *const u8, n: usize) -> Said;

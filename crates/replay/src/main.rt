@@ -1,156 +1,110 @@
 // Replays a recording: runs each of its cases against our code, and compares what the call says and all the memory that it was
 // lent with what is recorded. The recording is the file that the first argument names; it opens with its own grammar.
+mod bytes;
 mod call;
-mod line;
+mod case;
+mod count;
+mod hex;
+mod judge;
 mod memory;
-mod name;
-mod number;
 mod report;
 mod room;
 
-use line::behind;
-use line::byte_at;
-use line::next_place;
-use memory::bytes_of;
-use memory::part;
-use name::ENDS;
-use name::NONE;
-use name::TOTAL;
-use name::WRONG;
-use name::name_of;
-use name::row_of;
-use number::number_of;
-use number::numbers_at;
-use report::AGREES;
-use report::CUT;
-use report::LEAVES;
-use report::MISCOUNTS;
-use report::SAYS;
-use report::UNREADABLE;
-use report::say_disagreement;
-use report::say_head;
-use report::say_row;
-use report::say_too_long;
+use bytes::behind;
+use bytes::byte_at;
+use bytes::next_place;
+use bytes::part;
+use count::Book;
+use memory::has_bytes as opens_with;
 
-// How many disagreements are shown.
-const SHOWN: u64 = 20;
+// Where a line has its mark, behind the call's name, and where its hex.
+const MARK: usize = 20;
 
-// What is wrong with the last line, which counts the cases.
-fn judge_end(s: &[u8], cases: u64) -> u8 {
-    let numbers = numbers_at(s, 3);
-    let good = (numbers.count == 1) & (numbers.next == s.len());
-    if good & (number_of(s, 3, 0) == cases) {
-        return AGREES;
-    }
-    MISCOUNTS
+const HEX: usize = 22;
+
+// The name of the call whose line starts at a place.
+fn name_at(text: &[u8], at: usize) -> &[u8] {
+    part(text, at, behind(at, MARK))
 }
 
-// What is wrong with a line of a row, behind so many cases.
-fn judge(row: usize, s: &[u8], cases: u64) -> u8 {
-    if row == NONE {
-        return UNREADABLE;
+// The book at the call whose line starts at a place; a call that is over gets its row.
+fn turn(text: &[u8], at: usize, book: Book) -> Book {
+    let name = name_at(text, book.named);
+    if opens_with(name_at(text, at), name) {
+        return book;
     }
-    if row == ENDS {
-        return judge_end(s, cases);
-    }
-    let verdict = call::run(row, s);
-    if !verdict.readable {
-        return UNREADABLE;
-    }
-    if !verdict.says {
-        return SAYS;
-    }
-    if !verdict.leaves {
-        return LEAVES;
-    }
-    AGREES
+    report::say_row(name, book.chapter);
+    book.turned(at)
 }
 
-fn count_in(counts: &mut [u64; 38], row: usize) {
-    if row < 38 {
-        counts[row] = std::num::wrapping_add_u64(counts[row], 1);
-    }
-}
-
-// Counts a line, and shows what is wrong with it if it is among the first.
-fn count(counts: &mut [u64; 38], names: &[u8], line: u64, row: usize, what: u8) {
-    count_in(counts, row);
-    if row != ENDS {
-        count_in(counts, TOTAL);
-    }
-    if what == AGREES {
-        return;
-    }
-    count_in(counts, behind(row, WRONG));
-    count_in(counts, TOTAL + WRONG);
-    if counts[37] <= SHOWN {
-        say_disagreement(line, name_of(names, row), what);
-    }
-}
-
-fn enter(s: &[u8], names: &[u8], line: u64, counts: &mut [u64; 38]) {
+// Enters the line from a place to its end.
+fn enter(
+    text: &[u8],
+    at: usize,
+    to: usize,
+    line: u64,
+    book: Book,
+    case: &mut [u8],
+    bytes: &mut [u8],
+    shorts: &mut [u16],
+    words: &mut [i32],
+) -> Book {
+    let s = part(text, at, to);
     if byte_at(s, 0) == b'#' {
-        return;
+        return book;
     }
-    let row = row_of(s, names);
-    let what = judge(row, s, counts[18]);
-    count(counts, names, line, row, what);
+    let open = turn(text, at, book);
+    let name = part(s, 0, MARK);
+    let mark = byte_at(s, MARK);
+    let verdict = judge::judge(name, part(s, HEX, s.len()), case, bytes, shorts, words);
+    report::say_wrong(line, name, mark, verdict);
+    open.entered(mark, verdict)
 }
 
-// All lines, each of a byte or more with its newline; answers how many there are.
-fn replay(text: &[u8], names: &[u8], counts: &mut [u64; 38]) -> u64 {
-    let mut line: u64 = 0;
-    let mut at = 0;
-    let mut turns = text.len();
-    while turns > 0 {
+// Enters all lines, as many as the first one says.
+fn replay(
+    text: &[u8],
+    case: &mut [u8],
+    bytes: &mut [u8],
+    shorts: &mut [u16],
+    words: &mut [i32],
+) -> Book {
+    let mut book = count::empty();
+    let mut line: u64 = 1;
+    let mut at = behind(next_place(text, 0, b'\n'), 1);
+    let mut left = hex::six_at(text, 0);
+    while left > 0 {
         if at >= text.len() {
             break;
         }
-        let to = next_place(text, at, b'\n');
         line = std::num::wrapping_add_u64(line, 1);
-        enter(part(text, at, to), names, line, counts);
+        let to = next_place(text, at, b'\n');
+        book = enter(text, at, to, line, book, case, bytes, shorts, words);
         at = behind(to, 1);
-        turns -= 1;
+        left -= 1;
     }
-    line
+    report::say_end(line, left, at, text.len());
+    book
 }
 
-fn table(names: &[u8], counts: &[u64; 38]) {
-    say_head();
-    let mut row = 0;
-    while row < ENDS {
-        say_row(name_of(names, row), counts[row], counts[row + WRONG]);
-        row += 1;
-    }
-    say_row(name_of(names, TOTAL), counts[18], counts[37]);
+fn replay_text(text: &[u8]) {
+    let mut case = room::for_case();
+    let mut bytes = room::for_case();
+    let mut shorts = room::for_shorts();
+    let mut words = room::for_words();
+    report::say_head();
+    let book = replay(text, &mut case, &mut bytes, &mut shorts, &mut words);
+    report::say_row(name_at(text, book.named), book.chapter);
+    report::say_row(b"total               ", book.total);
 }
 
-fn replay_whole(text: &[u8], names: &[u8]) {
-    let mut counts = [0u64; 38];
-    let lines = replay(text, names, &mut counts);
-    if counts[17] != 1 {
-        count(&mut counts, names, lines, ENDS, CUT);
-    }
-    table(names, &counts);
-}
-
-// A recording that fills the room may go on.
-fn replay_file(fd: i32, names: &[u8]) {
+fn replay_file(fd: i32) {
     let mut text = room::for_text();
     let n = io::read_full(fd, &mut text);
-    if n >= 1048576 {
-        say_too_long();
-        return;
+    if n >= room::TEXT {
+        return report::say_no_room();
     }
-    replay_whole(bytes_of(&text, n), names);
-}
-
-// Lends the names of the rows, in their order.
-fn replay_named(fd: i32) {
-    replay_file(
-        fd,
-        b"version         padding_bit     count           packet_type     length          padding         check_packet    compound_parse  unknown_parse   walk_step       unknown_write   nack_add        nack_read       nack_write      twcc_read       twcc_write      arrival         end             total           ",
-    );
+    replay_text(part(&text, 0, n));
 }
 
 fn main() {
@@ -161,6 +115,6 @@ fn main() {
         os::fail(&path[..length]);
         return;
     }
-    replay_named(fd);
+    replay_file(fd);
     libc::close(fd);
 }

@@ -1,18 +1,10 @@
-// What the program prints: a line for each of the first disagreements, and the table.
+// What the program prints: a line for whatever is wrong, and the table.
+use crate::count::Counts;
+use crate::judge::AGREES;
+use crate::judge::NUMBER;
+use crate::judge::UNREADABLE;
+use crate::judge::VALUE;
 use libc::STDOUT_FILENO;
-
-// What can be wrong with a line.
-pub const AGREES: u8 = 0;
-
-pub const UNREADABLE: u8 = 1;
-
-pub const SAYS: u8 = 2;
-
-pub const LEAVES: u8 = 3;
-
-pub const MISCOUNTS: u8 = 4;
-
-pub const CUT: u8 = 5;
 
 fn say(text: &[u8]) {
     io::write_all(STDOUT_FILENO, text);
@@ -22,62 +14,85 @@ fn say_number(n: u64) {
     io::print_decimal(STDOUT_FILENO, n);
 }
 
-// A number in a column of six.
+// A number in a column of seventeen.
 fn say_column(n: u64) {
     if n < 10 {
-        say(b"     ");
-        return say_number(n);
+        say(b" ");
     }
     if n < 100 {
-        say(b"    ");
-        return say_number(n);
+        say(b" ");
     }
     if n < 1000 {
-        say(b"   ");
-        return say_number(n);
+        say(b" ");
     }
-    say(b"  ");
+    if n < 10000 {
+        say(b" ");
+    }
+    say(b"            ");
     say_number(n);
 }
 
-fn say_what(what: u8) {
-    if what == UNREADABLE {
-        return say(b" can't be read\n");
-    }
-    if what == SAYS {
-        return say(b" says something else\n");
-    }
-    if what == LEAVES {
-        return say(b" leaves something else\n");
-    }
-    if what == MISCOUNTS {
-        return say(b" has another count\n");
-    }
-    say(b" is missing\n");
+pub fn say_head() {
+    say(
+        b"call                            cases    disagreements wrong on purpose            found\n",
+    );
 }
 
-pub fn say_disagreement(line: u64, name: &[u8], what: u8) {
+// A row of the table; what counts nothing has none.
+pub fn say_row(name: &[u8], counts: Counts) {
+    if std::num::wrapping_add_u64(counts.cases, counts.wrong) == 0 {
+        return;
+    }
+    say(name);
+    say_column(counts.cases);
+    say_column(counts.disagreements);
+    say_column(counts.wrong);
+    say_column(counts.found);
+    say(b"\n");
+}
+
+fn say_line(line: u64) {
     say(b"line ");
     say_number(line);
     say(b": ");
+}
+
+fn say_what(mark: u8, verdict: u8) {
+    if verdict == UNREADABLE {
+        return say(b"can't be read\n");
+    }
+    if mark != AGREES {
+        return say(b"is wrong on purpose, and not found out\n");
+    }
+    match verdict {
+        NUMBER => say(b"says another number\n"),
+        VALUE => say(b"says another value\n"),
+        _ => say(b"leaves other memory\n"),
+    }
+}
+
+// What is wrong with a line.
+pub fn say_wrong(line: u64, name: &[u8], mark: u8, verdict: u8) {
+    if mark == verdict {
+        return;
+    }
+    say_line(line);
     say(name);
-    say_what(what);
+    say_what(mark, verdict);
 }
 
-pub fn say_too_long() {
-    say(b"the recording is too long\n");
+// What is wrong with the end, behind a line: whether lines are missing, and how far the text goes.
+pub fn say_end(line: u64, missing: u64, at: usize, length: usize) {
+    if (missing > 0) | (at > length) {
+        say_line(line);
+        say(b"the recording is cut short\n");
+    }
+    if at < length {
+        say_line(line);
+        say(b"the recording is too long\n");
+    }
 }
 
-pub fn say_head() {
-    say(b" cases  disagreements  call\n");
-}
-
-// A row of the table.
-pub fn say_row(name: &[u8], cases: u64, wrong: u64) {
-    say_column(cases);
-    say(b"         ");
-    say_column(wrong);
-    say(b"  ");
-    say(name);
-    say(b"\n");
+pub fn say_no_room() {
+    say(b"there is no room for the recording\n");
 }

@@ -1,38 +1,33 @@
-// Room for what a line holds, all zeros. The promises give the lengths alone: that is what lending asks for.
+// Room for what a recording holds, all zeros. The promises give the lengths alone: that is what lending asks for.
 ghost use mathlib.Core.Path.{_≡_};
 ghost use lib.ListN.{length};
 
+// More than the bytes of a recording.
+pub const TEXT: usize = 1048576;
+
 // A whole recording.
-pub fn for_text() -> [u8; 1048576]
+pub fn for_text() -> [u8; TEXT]
     ensures { λ r. ⌜ 1048576 ≡ length r ⌝ }
 {
-    [0; 1048576]
+    [0; TEXT]
 }
 
-// A packet's bytes.
-pub fn for_bytes() -> [u8; 262400]
-    ensures { λ r. ⌜ 262400 ≡ length r ⌝ }
+// One case, or the bytes that it lends.
+pub fn for_case() -> [u8; 655360]
+    ensures { λ r. ⌜ 655360 ≡ length r ⌝ }
 {
-    [0; 262400]
+    [0; 655360]
 }
 
-// A NACK store, or one of a wrong length.
-pub fn for_store() -> [u8; 16384]
-    ensures { λ r. ⌜ 16384 ≡ length r ⌝ }
+// The lists that it lends: it holds them twice, before the call and after it, so that half as many bytes are enough.
+pub fn for_shorts() -> [u16; 163840]
+    ensures { λ r. ⌜ 163840 ≡ length r ⌝ }
 {
-    [0; 16384]
+    [0; 163840]
 }
 
-// The numbers of a NACK.
-pub fn for_shorts() -> [u16; 16384]
-    ensures { λ r. ⌜ 16384 ≡ length r ⌝ }
+pub fn for_words() -> [i32; 81920]
+    ensures { λ r. ⌜ 81920 ≡ length r ⌝ }
 {
-    [0; 16384]
-}
-
-// Status words.
-pub fn for_words() -> [i32; 70000]
-    ensures { λ r. ⌜ 70000 ≡ length r ⌝ }
-{
-    [0; 70000]
+    [0; 81920]
 }

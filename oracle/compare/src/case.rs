@@ -10,7 +10,7 @@ use ours::{Expect, Random, Said};
 use rtcp_types::RtcpParseError;
 
 use crate::control::{Controls, Spot};
-use crate::record::{Case, Sample};
+use crate::record::{Case, Chapter, Sample};
 
 /// How much a run does, from which seed, and whether it keeps a sample of its cases.
 pub struct Effort {
@@ -200,11 +200,10 @@ impl Book {
         }
     }
 
-    /// The lines that a recording keeps, about as many as asked for.
-    pub fn lines(&self, most: usize) -> Vec<&str> {
-        self.sample
-            .as_ref()
-            .map_or(vec![], |sample| sample.lines(most))
+    /// What a recording with about so many cases of each call holds of this one.
+    pub fn chapter(&self, most: usize) -> Option<Chapter<'_>> {
+        let sample = self.sample.as_ref()?;
+        Some(sample.chapter(self.call, most))
     }
 }
 

@@ -5,17 +5,19 @@ mod case;
 mod compound;
 mod control;
 mod header;
+mod line;
 mod nack;
 mod record;
 mod traffic;
 mod twcc_read;
 mod twcc_write;
 
+use std::path::Path;
 use std::process::ExitCode;
 use std::time::Instant;
 
 use case::{Book, Effort};
-use record::OPENING;
+use record::Chapter;
 
 /// A part: its name and what compares it.
 type Part = (&'static str, fn(&Effort) -> Vec<Book>);
@@ -30,13 +32,14 @@ const PARTS: &[Part] = &[
 ];
 
 const HELP: &str = "\
-compare [--cases N] [--seed S] [--record FILE [--most N]] [--only NAME]
+compare [--cases N] [--seed S] [--record FOLDER [--most N]] [--only NAME]
 
-  --cases N      random cases a call, where that is more than its own number
-  --seed S       the seed of the random cases (default 1)
-  --record FILE  writes a sample of the cases, with what is expected of each
-  --most N       about how many cases of a call are recorded (default 300)
-  --only NAME    one part alone";
+  --cases N        random cases a call, where that is more than its own number
+  --seed S         the seed of the random cases (default 1)
+  --record FOLDER  writes a sample of the cases, with what is expected of each, to data/answers there,
+                   and what replaying them has to print to stdout
+  --most N         about how many cases of a call are recorded (default 300)
+  --only NAME      one part alone";
 
 struct Wishes {
     effort: Effort,
@@ -125,9 +128,9 @@ fn main() -> ExitCode {
     for control in &missed {
         println!("    not noticed: {control}");
     }
-    if let Some(path) = &wishes.record {
-        if let Err(error) = std::fs::write(path, recording(&books, wishes.most)) {
-            eprintln!("compare: {path} can't be written: {error}");
+    if let Some(folder) = &wishes.record {
+        if let Err(error) = record(folder, &books, wishes.most) {
+            eprintln!("compare: {folder} can't be written to: {error}");
             return ExitCode::from(2);
         }
     }
@@ -138,8 +141,10 @@ fn main() -> ExitCode {
     }
 }
 
-/// A recording of about so many cases of each book.
-fn recording(books: &[Book], most: usize) -> String {
-    let lines: Vec<&str> = books.iter().flat_map(|book| book.lines(most)).collect();
-    format!("{OPENING}{}\nend {}\n", lines.join("\n"), lines.len())
+/// Writes a recording of about so many cases of each book, and its table.
+fn record(folder: &str, books: &[Book], most: usize) -> std::io::Result<()> {
+    let chapters: Vec<Chapter> = books.iter().filter_map(|book| book.chapter(most)).collect();
+    let folder = Path::new(folder);
+    std::fs::write(folder.join("data/answers"), record::recording(&chapters))?;
+    std::fs::write(folder.join("stdout"), record::table(&chapters))
 }

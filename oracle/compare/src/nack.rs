@@ -66,7 +66,7 @@ fn compare_add(effort: &Effort) -> Book {
             let mut store = store_of_length(random, length);
             let said = ours::nack_add(store.part_mut(), number);
             let expected = Said::refusal(16, &[length as u64]);
-            let numbers = [number.into(), length as i128];
+            let numbers = [number.into()];
             let case = Case::default()
                 .numbers(&numbers)
                 .lent(Memory::Store(store.was()), Memory::Store(&[]));
@@ -86,7 +86,7 @@ fn add_to(book: &mut Book, random: &mut Random, held: &[u16], number: u16) {
     let said = ours::nack_add(store.part_mut(), number);
     let with_it: Vec<u16> = held.iter().copied().chain([number]).collect();
     let answer = store_of(&with_it);
-    let numbers = [number.into(), STORE as i128];
+    let numbers = [number.into()];
     let case = Case::default()
         .numbers(&numbers)
         .lent(Memory::Store(store.was()), Memory::Store(&answer))
@@ -221,9 +221,7 @@ fn compare_write(effort: &Effort) -> Book {
             let mut out: Lent<u8> = Lent::anything(random, room);
             let said = ours::nack_write(store.part(), out.part_mut());
             let expected = Said::refusal(16, &[length as u64]);
-            let numbers = [length as i128];
             let case = Case::default()
-                .numbers(&numbers)
                 .read(Memory::Store(store.was()))
                 .lent(Memory::Bytes(out.was()), Memory::Bytes(&[]));
             book.enter(expected, said, &[&store.kept(), &out.kept()], case);
@@ -300,9 +298,7 @@ fn write(book: &mut Book, random: &mut Random, numbers: &[u16], bytes: &[u8], ro
     } else {
         (Said::answer(&[needed]), bytes)
     };
-    let lengths = [STORE as i128];
     let case = Case::default()
-        .numbers(&lengths)
         .read(Memory::Store(store.was()))
         .lent(Memory::Bytes(out.was()), Memory::Bytes(answer));
     book.enter(expected, said, &[&store.kept(), &out.after(answer)], case);

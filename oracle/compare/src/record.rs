@@ -1,41 +1,11 @@
-//! A case as one line of text, and the sample of such lines that a recording keeps.
-//!
-//! The lines are those of crates/replay/data/answers; the file opens with their grammar (`OPENING` here).
+//! What a recording keeps: a sample of the cases of each call, and lines that are wrong on purpose.
 
 use std::collections::{BTreeMap, BTreeSet};
-use std::fmt::{Display, Write};
 
 use ours::{Random, Said};
 
 use crate::case::Expected;
-
-/// The head of a recording, in the file's own comments.
-pub const OPENING: &str = "\
-# What each call of include/bogslipper.h has to answer: one case a line, grouped by call in the header's order.
-# The expected outcomes are the Rust crate's wherever it has one, and else those of docs/RULES.md; none is an answer of this library.
-# Made by oracle/record; read by crates/replay. Lines that start with # are not cases, and the last line counts the cases.
-#
-#   CALL NUMBERS : READ : LENT -> NUMBER VALUES : LEFT
-#
-# Words are separated by one space. NUMBERS are the call's plain parameters in their order, READ is what it may only read, LENT what
-# it may write, before the call, and LEFT the same memory after it; parts that a call does not have are left out:
-#
-#   version, padding_bit, count, packet_type, length, padding, compound_parse, unknown_parse : data
-#   check_packet least type : data                          walk_step offset : data
-#   unknown_write count type padding : body : out           nack_add number store_n : store
-#   nack_read : data : list                                 nack_write store_n : store : out
-#   twcc_read : block : list                                twcc_write base time feedback limited limit : list : out
-#   arrival time delta
-#
-# NUMBER is 0 for an answer, else the refusal's; VALUES not given are 0. Every number is decimal, a signed one with its minus.
-# Bytes are hex, two digits each; a list is numbers with commas between; a NACK store is the list of the numbers that it holds, and
-# its length stands among NUMBERS. x*n is n times x, in bytes with a comma behind it where more follow. - is empty memory, and = in
-# LEFT is memory that is as it was. So this call, of nine words under a limit of 12 bytes and into 14,
-#
-#   twcc_write 1 0 0 1 12 : 0*9 : 17a0c5d2e9340b6681f0ffeeddcc -> 0 12 1 : 000100010000000020010000ddcc
-#
-# answers 12 bytes and 1 entry, and the last two bytes of its buffer stay.
-";
+use crate::line::{Line, HEAD};
 
 /// What a call is lent.
 #[derive(Clone, Copy)]
@@ -43,7 +13,7 @@ pub enum Memory<'a> {
     Bytes(&'a [u8]),
     Shorts(&'a [u16]),
     Words(&'a [i32]),
-    /// The bytes of a NACK store, written as the numbers that it holds.
+    /// The bytes of a NACK store, most of them 0.
     Store(&'a [u8]),
 }
 
@@ -66,72 +36,48 @@ impl Memory<'_> {
         }
     }
 
-    fn text(&self) -> String {
+    /// The bytes of an element.
+    pub fn width(&self) -> usize {
         match self {
-            Memory::Bytes(part) => hex(part),
-            Memory::Shorts(part) => list(part),
-            Memory::Words(part) => list(part),
-            Memory::Store(part) => {
-                let numbers = 0..8 * part.len();
-                let held = numbers.filter(|number| part[number / 8] >> (number % 8) & 1 == 1);
-                list(&held.collect::<Vec<usize>>())
-            }
+            Memory::Bytes(_) | Memory::Store(_) => 1,
+            Memory::Shorts(_) => 2,
+            Memory::Words(_) => 4,
+        }
+    }
+
+    /// The kind of its part where it is lent.
+    pub fn kind(&self) -> usize {
+        match self {
+            Memory::Bytes(_) | Memory::Store(_) => 4,
+            Memory::Shorts(_) => 5,
+            Memory::Words(_) => 6,
+        }
+    }
+
+    /// The elements one after the other, the high byte of each first.
+    pub fn bytes(&self) -> Vec<u8> {
+        match self {
+            Memory::Bytes(part) | Memory::Store(part) => part.to_vec(),
+            Memory::Shorts(part) => part.iter().flat_map(|short| short.to_be_bytes()).collect(),
+            Memory::Words(part) => part.iter().flat_map(|word| word.to_be_bytes()).collect(),
         }
     }
 }
 
 /// The runs of equal elements of a list.
-fn runs<T: PartialEq>(elements: &[T]) -> impl Iterator<Item = (&T, usize)> {
-    elements
-        .chunk_by(|one, next| one == next)
-        .map(|run| (&run[0], run.len()))
-}
-
-/// Bytes as pairs of hex digits; a run of six or more as one pair and its length.
-fn hex(bytes: &[u8]) -> String {
-    let mut text = String::new();
-    let mut behind_a_length = false;
-    for (byte, times) in runs(bytes) {
-        if behind_a_length {
-            text.push(',');
-        }
-        behind_a_length = times > 5;
-        text += &match behind_a_length {
-            true => format!("{byte:02x}*{times}"),
-            false => format!("{byte:02x}").repeat(times),
-        };
-    }
-    or_empty(text)
-}
-
-/// Numbers with commas between; a run of three or more as one number and its length.
-fn list<T: PartialEq + Display>(numbers: &[T]) -> String {
-    let mut pieces = vec![];
-    for (number, times) in runs(numbers) {
-        match times {
-            0..=2 => pieces.extend(std::iter::repeat_n(number.to_string(), times)),
-            _ => pieces.push(format!("{number}*{times}")),
-        }
-    }
-    or_empty(pieces.join(","))
-}
-
-fn or_empty(text: String) -> String {
-    match text.is_empty() {
-        true => "-".to_string(),
-        false => text,
-    }
+fn runs<T: PartialEq>(elements: &[T]) -> impl Iterator<Item = &[T]> {
+    elements.chunk_by(|one, next| one == next)
 }
 
 /// One case, apart from what has to be said.
-#[derive(Clone, Copy, Default)]
+#[derive(Clone, Default)]
 pub struct Case<'a> {
     /// The call's plain parameters.
     pub numbers: &'a [i128],
     /// What it may only read.
     pub read: Option<Memory<'a>>,
     /// What it may write as it was before, and the answer that has to replace its front.
-    pub lent: Option<(Memory<'a>, Memory<'a>)>,
+    pub lent: Vec<(Memory<'a>, Memory<'a>)>,
     /// A word for cases that a sample is to tell apart though they have the same outcome.
     pub kind: &'static str,
 }
@@ -154,19 +100,24 @@ impl<'a> Case<'a> {
         Case { read, ..self }
     }
 
-    pub fn lent(self, before: Memory<'a>, answer: Memory<'a>) -> Self {
-        let lent = Some((before, answer));
-        Case { lent, ..self }
+    pub fn lent(mut self, before: Memory<'a>, answer: Memory<'a>) -> Self {
+        self.lent.push((before, answer));
+        self
     }
 
     pub fn kind(self, kind: &'static str) -> Self {
         Case { kind, ..self }
     }
 
+    /// All memory that it is given.
+    fn memory(&self) -> impl Iterator<Item = Memory<'a>> + '_ {
+        let lent = self.lent.iter().map(|(before, _)| *before);
+        self.read.into_iter().chain(lent)
+    }
+
     /// About how long its line is, counted in bytes of hex as far as it matters.
     pub fn weight(&self) -> usize {
-        let read = self.read.map_or(0, |memory| memory.weight());
-        read + self.lent.map_or(0, |(before, _)| before.weight())
+        self.memory().map(|memory| memory.weight()).sum()
     }
 
     /// How many parts of memory the call is lent.
@@ -176,66 +127,22 @@ impl<'a> Case<'a> {
 
     /// Whether its memory is large, though its line may be short.
     fn is_large(&self) -> bool {
-        let lent = self.lent.map(|(before, _)| before);
-        let parts = self.read.into_iter().chain(lent);
-        parts
-            .map(|memory| memory.len())
-            .any(|length| length > LARGE)
+        self.memory().any(|memory| memory.len() > LARGE)
+    }
+
+    /// Whether lent memory, if there is any, has places for a wrong byte: in an answer and behind it, or on a refusal.
+    fn can_be_wrong(&self, refused: bool) -> bool {
+        let has_places = |(before, answer): &(Memory, Memory)| match before {
+            _ if refused => before.len() > 0,
+            Memory::Store(_) => true,
+            _ => (1..before.len()).contains(&answer.len()),
+        };
+        self.lent.is_empty() || self.lent.iter().any(has_places)
     }
 
     /// What the call is given.
     pub fn given(&self, call: &str) -> String {
-        let mut text = call.to_string();
-        for number in self.numbers {
-            write!(text, " {number}").expect("a string takes all");
-        }
-        for memory in self.read.into_iter().chain(self.lent.map(|lent| lent.0)) {
-            text = text + " : " + &memory.text();
-        }
-        text
-    }
-
-    /// The whole line.
-    fn line(&self, call: &str, said: &Said) -> String {
-        let mut text = format!("{} -> {}", self.given(call), said.number);
-        for value in &said.values[..values_of(call, said)] {
-            match (call, said.number) {
-                ("arrival", 0) => write!(text, " {}", *value as i64),
-                _ => write!(text, " {value}"),
-            }
-            .expect("a string takes all");
-        }
-        if let Some(lent) = self.lent {
-            text = text + " : " + &left(lent);
-        }
-        text
-    }
-}
-
-/// What lent memory has to be after the call.
-fn left(lent: (Memory, Memory)) -> String {
-    fn over<T: Copy>(before: &[T], answer: &[T]) -> Vec<T> {
-        [answer, &before[answer.len()..]].concat()
-    }
-    match lent {
-        (_, answer) if answer.len() == 0 => "=".to_string(),
-        (Memory::Bytes(old), Memory::Bytes(new)) => Memory::Bytes(&over(old, new)).text(),
-        (Memory::Shorts(old), Memory::Shorts(new)) => Memory::Shorts(&over(old, new)).text(),
-        (Memory::Words(old), Memory::Words(new)) => Memory::Words(&over(old, new)).text(),
-        (_, answer) => answer.text(),
-    }
-}
-
-/// How many values stand in a line: those that include/bogslipper.h names.
-fn values_of(call: &str, said: &Said) -> usize {
-    match (said.number, call, said.values[0]) {
-        (0, "check_packet" | "compound_parse" | "unknown_parse" | "nack_add", _) => 0,
-        (0, "padding", 1) | (0, "walk_step", 1) | (0, "twcc_write", _) => 2,
-        (0, "walk_step", _) => 4,
-        (0, "twcc_read", _) => 5,
-        (1 | 3 | 4 | 15, _, _) => 2,
-        (5, _, _) => 0,
-        _ => 1,
+        Line::of(call, self, &Said::answer(&[])).given()
     }
 }
 
@@ -245,6 +152,8 @@ pub struct Sample {
     keeps_all: bool,
     fixed: Vec<String>,
     outcomes: BTreeMap<Outcome, [Pool; SIZES.len()]>,
+    /// The first short answer, and the first short refusal, wrong in one point at a time.
+    wrong: BTreeMap<bool, Vec<String>>,
 }
 
 /// What is told apart: the number said, the listed difference, the case's kind, and whether its memory is large.
@@ -297,6 +206,7 @@ impl Sample {
             keeps_all: false,
             fixed: vec![],
             outcomes: BTreeMap::new(),
+            wrong: BTreeMap::new(),
         }
     }
 
@@ -312,20 +222,26 @@ impl Sample {
             return;
         }
         let Expected { said, difference } = expected;
+        let line = || Line::of(call, case, said);
+        let refused = said.number != 0;
+        if weight <= SIZES[1] && case.can_be_wrong(refused) {
+            let wrong = || line().wrong();
+            self.wrong.entry(refused).or_insert_with(wrong);
+        }
         if self.keeps_all {
-            self.fixed.push(case.line(call, said));
+            self.fixed.push(line().text());
             return;
         }
         let outcome = (said.number, *difference, case.kind, case.is_large());
         let pools = self.outcomes.entry(outcome).or_default();
         let pool = &mut pools[SIZES.partition_point(|bound| *bound < weight)];
         if let Some(place) = pool.place(&mut self.random) {
-            pool.keep(place, case.line(call, said));
+            pool.keep(place, line().text());
         }
     }
 
     /// The fixed cases and about as many others as asked for, evenly from all outcomes and the short lines first.
-    pub fn lines(&self, most: usize) -> Vec<&str> {
+    fn lines(&self, most: usize) -> Vec<&str> {
         let small = self.outcomes.keys().filter(|(.., large)| !large).count();
         let share = most.div_ceil(small.max(1));
         let mut chosen: Vec<&str> = self.fixed.iter().map(String::as_str).collect();
@@ -339,6 +255,15 @@ impl Sample {
         chosen.retain(|line| met.insert(*line));
         chosen
     }
+
+    /// What a recording with about so many cases of each call holds of this one.
+    pub fn chapter<'a>(&'a self, call: &'static str, most: usize) -> Chapter<'a> {
+        Chapter {
+            call,
+            cases: self.lines(most),
+            wrong: self.wrong.values().flatten().map(String::as_str).collect(),
+        }
+    }
 }
 
 /// How many lines of each size are taken: a few of the long ones, the rest short.
@@ -349,4 +274,44 @@ fn counts(pools: &[Pool; SIZES.len()], share: usize) -> [usize; SIZES.len()] {
     let first = held(0).min(left - held(1).min(left / 2));
     let second = held(1).min(left - first);
     [first, second, long[0], long[1]]
+}
+
+/// What a recording holds of one call: its cases, and the lines that are wrong on purpose.
+pub struct Chapter<'a> {
+    call: &'static str,
+    cases: Vec<&'a str>,
+    wrong: Vec<&'a str>,
+}
+
+/// The text of a recording.
+pub fn recording(chapters: &[Chapter]) -> String {
+    let lines = chapters
+        .iter()
+        .flat_map(|chapter| [&chapter.cases[..], &chapter.wrong].concat());
+    let text: String = lines.map(|line| format!("{line}\n")).collect();
+    let count = HEAD.lines().count() - 1 + text.lines().count();
+    format!("{count:06x}{HEAD}{text}")
+}
+
+/// What replaying it has to print, if our library does all that is recorded.
+pub fn table(chapters: &[Chapter]) -> String {
+    let row = |name: &str, cells: [&str; 4]| {
+        let [cases, disagreements, wrong, found] = cells;
+        format!("{name:<20}{cases:>17}{disagreements:>17}{wrong:>17}{found:>17}\n")
+    };
+    let counted = |name: &str, cases: usize, wrong: usize| {
+        let [cases, wrong] = [cases.to_string(), wrong.to_string()];
+        row(name, [&cases, "0", &wrong, &wrong])
+    };
+    let mut text = row(
+        "call",
+        ["cases", "disagreements", "wrong on purpose", "found"],
+    );
+    let (mut cases, mut wrong) = (0, 0);
+    for chapter in chapters {
+        text += &counted(chapter.call, chapter.cases.len(), chapter.wrong.len());
+        cases += chapter.cases.len();
+        wrong += chapter.wrong.len();
+    }
+    text + &counted("total", cases, wrong)
 }

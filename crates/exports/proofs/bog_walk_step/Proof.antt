@@ -17,46 +17,46 @@ as-found c e = sym (c .walk-step .ensures) ∙ ap (λ (f : Found). step (saidFou
 walk-step-requires : tie.Need-walk-step-requires
 walk-step-requires c κs = search needs
 
-enum-told : tie.Need-enum-told
-enum-told c = search needs
+enum-known-found : tie.Need-enum-known-found
+enum-known-found c = search needs
 
 four-requires : tie.Need-four-requires
 four-requires c κs = search needs
 
-enum-told-2 : tie.Need-enum-told-2
-enum-told-2 c = search needs
+enum-told : tie.Need-enum-told
+enum-told c = search needs
 
 two-requires : tie.Need-two-requires
 two-requires c κs = search needs
 
-enum-known-found : tie.Need-enum-known-found
-enum-known-found c = search needs
+enum-known-found-2 : tie.Need-enum-known-found-2
+enum-known-found-2 c = search needs
 
 refused-requires : tie.Need-refused-requires
 refused-requires c κs = search needs
 
 returns : tie.Need-returns
 unfolding saidOf walk
-returns c = rw (as-found (c .before .before .before) (c .before .enum-told .given .1)) (c .four .ensures)
+returns c = rw (as-found (c .before .before .before .before) (c .before .before .found .given .1)) (c .four .ensures)
 
 returns-2 : tie.Need-returns-2
 unfolding saidOf walk
-returns-2 c = rw (as-found (c .before .before .before) (c .before .enum-told2 .given .1)) (c .two .ensures)
+returns-2 c = rw (as-found (c .before .before .before) (c .before .enum-told .given .1)) (c .two .ensures)
 
 returns-3 : tie.Need-returns-3
 unfolding walk
-returns-3 c = rw (as-found (c .before .before .before .before) (c .before .before .found .given .1)) (c .refused .ensures)
+returns-3 c = rw (as-found (c .before .before .before .before) (c .before .before .found2 .given .1)) (c .refused .ensures)
 
 pub bog-walk-step-spec : {M : Type 1} → statement M
 bog-walk-step-spec =
     tie.close
     (tie.spec
     walk-step-requires
-    enum-told
-    four-requires
-    enum-told-2
-    two-requires
     enum-known-found
+    four-requires
+    enum-told
+    two-requires
+    enum-known-found-2
     refused-requires
     returns
     returns-2

@@ -3,8 +3,5 @@ use Rattle.replay.proofs.Zeros.{as-many}
 use Rattle.replay.proofs.room.for_shorts.Statement.{statement}
 use Rattle.replay.proofs.room.for_shorts.Tie as tie
 
-returns : tie.Need-returns
-returns c = as-many 16384
-
 pub for-shorts-spec : {M : Type 1} → statement M
-for-shorts-spec = tie.close (tie.spec returns)
+for-shorts-spec = tie.close (tie.spec (λ c. as-many 163840))

@@ -3,8 +3,5 @@ use Rattle.replay.proofs.Zeros.{as-many}
 use Rattle.replay.proofs.room.for_words.Statement.{statement}
 use Rattle.replay.proofs.room.for_words.Tie as tie
 
-returns : tie.Need-returns
-returns c = as-many 70000
-
 pub for-words-spec : {M : Type 1} → statement M
-for-words-spec = tie.close (tie.spec returns)
+for-words-spec = tie.close (tie.spec (λ c. as-many 81920))

@@ -1,0 +1,22 @@
+-- Only the number below zero is left to fit.
+use Prim.Native.Nat.{_-_}
+use native.Mathlib.Omega.{arith}
+use mir.Syntax.{w32}
+use borrow.Author.Needs.{needs}
+use Rattle.replay.proofs.Below.{below-fits}
+use Rattle.replay.proofs.bytes.signed_long.Statement.{statement}
+use Rattle.replay.proofs.bytes.signed_long.Tie as tie
+
+below : tie.Need-sub-result-2
+below c = below-fits w32 (4294967295 - c .before .args .n) (omega arith)
+
+pub signed-long-spec : {M : Type 1} → statement M
+signed-long-spec =
+    tie.close
+    (tie.spec
+    (λ c. search needs)
+    (λ c. search needs)
+    (λ c. search needs)
+    (λ c. search needs)
+    below
+    (λ c. search needs))
