@@ -287,7 +287,7 @@ fn pick_plain(rest: &[i32]) -> Picked
         return run_picked(symbol, run_known(rest, symbol, 14));
     }
     Picked {
-        chunk: RUNS_END + wide(sum % 65536),
+        chunk: wide(RUNS_END as u32 + sum % 65536),
         count: 14,
         width: wide(width),
     }
@@ -324,7 +324,7 @@ fn two_picked(a: Seven) -> Picked
     ensures { λ r. ⌜ r ≡ twoOf a ⌝ }
 {
     Picked {
-        chunk: ONES_END + wide(a.two),
+        chunk: wide(ONES_END as u32 + a.two),
         count: 7,
         width: wide(a.width),
     }

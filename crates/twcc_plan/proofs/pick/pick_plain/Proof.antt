@@ -36,11 +36,14 @@ returns c =
     c .run-picked .ensures
     ∙ plain-run (map symbolOf (now (s .args .rest))) (rw length-map (s .pre .0)) (s .pre .1) _ (t .before .weigh .ensures) (t .if1 .taken) _ (c .before .run-known .ensures)
 
+cast-wide : tie.Need-cast-wide
+cast-wide c = search needs
+
+add-wide : tie.Need-add-wide
+add-wide c = search needs
+
 wide-requires : tie.Need-wide-requires
 wide-requires c κs = search needs
-
-add-t9 : tie.Need-add-t9
-add-t9 c = search needs
 
 wide-requires-2 : tie.Need-wide-requires-2
 wide-requires-2 c κs = search needs
@@ -60,7 +63,8 @@ pick-plain-spec =
     run-known-requires
     run-picked-requires
     returns
+    cast-wide
+    add-wide
     wide-requires
-    add-t9
     wide-requires-2
     returns-2)
