@@ -2,6 +2,7 @@
 use kinds::RefTime;
 use kinds::Tick;
 use refusal::Refusal;
+use twcc::LATEST_TIME;
 ghost use mathlib.Core.Path.{_≡_};
 ghost use Rattle.octets.specs.Signed.{bits64};
 ghost use Rattle.arrival.specs.Arrival.{saidArrived, arrivalOf};
@@ -16,7 +17,7 @@ pub fn arrival(time: RefTime, delta: i16) -> Arrived
     ensures { λ r. ⌜ saidArrived r ≡ arrivalOf (time .0) delta ⌝ }
 {
     let t = time.0;
-    if 16777215 < t {
+    if LATEST_TIME < t {
         return Arrived::No(Refusal::ReferenceTimeTooLarge(t));
     }
     let start = (t * 256) as i64;

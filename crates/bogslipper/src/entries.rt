@@ -7,6 +7,7 @@ use kinds::RefTime;
 use kinds::Seq;
 use kinds::Tick;
 use libc::STDOUT_FILENO;
+use twcc::Status;
 use twcc_read::Listed;
 use twcc_read::Reading;
 
@@ -89,16 +90,13 @@ fn entry(number: Seq, time: RefTime, word: i32) {
 }
 
 fn status(line: &mut [u8; LONGEST], at: usize, time: RefTime, word: i32) -> usize {
-    if word == 32768 {
-        return without(line, at, b"not-received");
+    match Status::of(word) {
+        Status::Received(delta) => received(line, at, time, delta),
+        Status::NotReceived => without(line, at, b"not-received"),
+        Status::Truncated => without(line, at, b"truncated"),
+        Status::Reserved => without(line, at, b"reserved"),
+        Status::NoStatus => without(line, at, b"no-status"),
     }
-    if word == 32769 {
-        return without(line, at, b"truncated");
-    }
-    if word == 32770 {
-        return without(line, at, b"reserved");
-    }
-    received(line, at, time, delta(word))
 }
 
 // A status that has no delta and so no arrival.
@@ -107,17 +105,6 @@ fn without(line: &mut [u8; LONGEST], at: usize, words: &[u8]) -> usize {
     let p = line::right(line, p, b"-", 8);
     let p = line::right(line, p, b"-", 14);
     line::right(line, p, b"-", 16)
-}
-
-// A received entry's status word is its delta.
-fn delta(word: i32) -> i16 {
-    if word < -32768 {
-        return 0;
-    }
-    if 32767 < word {
-        return 0;
-    }
-    word as i16
 }
 
 fn ticks(delta: i16) -> i64 {

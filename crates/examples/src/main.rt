@@ -5,7 +5,7 @@ use libc::STDOUT_FILENO;
 use refusal::Checked;
 use refusal::Number;
 use refusal::Refusal;
-use twcc_chunks::Limit;
+use twcc_plan::Limit;
 use twcc_read::Reading;
 use twcc_write::Written;
 

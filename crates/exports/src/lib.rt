@@ -7,7 +7,7 @@ use kinds::Seq;
 use refusal::Checked;
 use refusal::Number;
 use refusal::Refusal;
-use twcc_chunks::Limit;
+use twcc_plan::Limit;
 use twcc_read::Reading;
 use twcc_write::Written;
 use utils::Padded;

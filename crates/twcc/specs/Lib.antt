@@ -1,7 +1,5 @@
 pub mod Time
 pub mod Words
+pub mod Status
 pub mod Chunks
 pub mod Block
-pub mod Entries
-pub mod Reading
-pub mod Written

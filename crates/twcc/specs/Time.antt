@@ -1,8 +1,7 @@
 -- The reference time of a TWCC block: which times there are, and their 24 bits
 -- (draft-holmer-rmcat-transport-wide-cc-extensions-01, 3.1). The draft calls the number signed; docs/RULES.md takes it as
 -- unsigned, as the Rust does. Nothing else knows how the bits are read.
-use Prim.Native.Nat.{ℕ, _≤_}
-use mathlib.Core.Path.{_≡_, refl}
+use Prim.Native.Nat.{ℕ}
 use mathlib.Core.Bool.{Bool}
 use lib.Dec.{ltb}
 
@@ -21,9 +20,3 @@ timeOf bits = bits
 -- the 24 bits of a time
 abbrev pub timeBits : ℕ → ℕ
 timeBits time = time
-
-pub time-back : (time : ℕ) → time ≤ latest → timeOf (timeBits time) ≡ time
-time-back time fits = refl
-
-pub time-bits : (time : ℕ) → time ≤ latest → timeBits time ≤ 16777215
-time-bits time fits = fits

@@ -20,14 +20,17 @@ unfoldable pub widthOf : List ℕ → ℕ
 widthOf [] = 0
 widthOf (s ∷ ss) = bytesOf s + widthOf ss
 
--- 16 bits read as a signed number
+-- half of what 16 bits hold: as signed numbers they go from it below zero up to one less than it
+abbrev pub half : ℕ
+half = 32768
+
 unfoldable pub signed16 : ℕ → ℤ
-signed16 bits = cond (ltb bits 32768) (pos bits) (negsuc (65535 - bits))
+signed16 bits = cond (ltb bits half) (pos bits) (negsuc (65535 - bits))
 
 -- ---- docs/RULES.md: the status words, and what is read where delta bytes lack or a symbol is reserved
 
 abbrev pub notReceived : ℤ
-notReceived = pos 32768
+notReceived = pos half
 
 abbrev pub truncated : ℤ
 truncated = pos 32769
@@ -54,8 +57,8 @@ entries (s ∷ ss) ds = wordOf s ds ∷ entries ss (drop (bytesOf s) ds)
 
 -- −32,768 to 32,767 a delta, 32,768 not received
 abbrev pub Valid : ℤ → Type 0
-Valid (pos n) = n ≤ 32768
-Valid (negsuc n) = n < 32768
+Valid (pos n) = n ≤ half
+Valid (negsuc n) = n < half
 
 abbrev pub AllValid : List ℤ → Type 0
 AllValid [] = Unit {0}
@@ -63,7 +66,7 @@ AllValid (w ∷ ws) = Valid w × AllValid ws
 
 -- the symbol of a word: 1 for a delta of 0 to 255, 2 for any other delta, 0 for not received
 unfoldable pub symbolOf : ℤ → ℕ
-symbolOf (pos n) = cond (ltb n 256) 1 (cond (ltb n 32768) 2 0)
+symbolOf (pos n) = cond (ltb n 256) 1 (cond (ltb n half) 2 0)
 symbolOf (negsuc n) = 2
 
 -- a delta's 16 bits

@@ -1,4 +1,3 @@
 pub mod Numbered
 pub mod Cut
-pub mod Answers
 pub mod Calls

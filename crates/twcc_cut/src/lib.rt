@@ -1,5 +1,5 @@
-// Cutting a list into blocks: the theorem that the cuts can't be seen is in specs/; here is the one number that goes from
-// block to block.
+// Cutting a list into blocks: the theorem that the cuts can't be seen is stated in specs/ and proved in proofs/; here is the one
+// number that goes from block to block.
 use kinds::Seq;
 ghost use mathlib.Core.Path.{_≡_};
 ghost use Prim.Native.Nat.{_+_, _%_};

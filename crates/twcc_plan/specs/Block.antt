@@ -1,4 +1,4 @@
--- The bytes of a block that is written: header, chunk words, delta bytes, zeros to a multiple of four (the draft, 3.1).
+-- The bytes of a block that is written: header, chunks, delta bytes, zeros to a multiple of four (the draft, 3.1).
 use Prim.Native.Nat.{ℕ, _+_, _-_, _/_, _%_}
 use mathlib.Core.List.{List, [], _∷_, _++_, map}
 use mathlib.Core.Option.{Option}
@@ -8,9 +8,8 @@ use lib.IntN.{ℤ, pos, negsuc}
 use lib.ListN.{length, take}
 use Rattle.lent.specs.Bytes.{zeroBytes}
 use Rattle.twcc.specs.Time.{timeBits}
-use Rattle.twcc.specs.Words.{symbolOf, deltas}
-use Rattle.twcc.specs.Chunks.{Chunk, chunkWord}
-use Rattle.twcc.specs.Written.{wordBytes}
+use Rattle.twcc.specs.Words.{half, symbolOf, deltas}
+use Rattle.twcc.specs.Chunks.{Chunk, chunkWord, chunkBytes}
 use Rattle.twcc_plan.specs.Front.{front}
 use Rattle.twcc_plan.specs.Limits.{upFour}
 use Rattle.twcc_plan.specs.Plan.{plan, takenIn}
@@ -18,13 +17,13 @@ use Rattle.twcc_plan.specs.Plan.{plan, takenIn}
 -- ---- what is written
 
 -- the most entries of a list
-abbrev pub most : ℕ
-most = 16384
+abbrev pub mostEntries : ℕ
+mostEntries = 16384
 
 -- a word that can be written: −32,768 to 32,768
 unfoldable pub inRange : ℤ → Bool
-inRange (pos n) = leb n 32768
-inRange (negsuc n) = ltb n 32768
+inRange (pos n) = leb n half
+inRange (negsuc n) = ltb n half
 
 -- the first place of a word that cannot, or the list's length
 abbrev pub firstBad : List ℤ → ℕ
@@ -47,7 +46,7 @@ unfoldable pub takenOf : Option ℕ → List ℤ → ℕ
 takenOf limit list = takenIn (chunksOf limit list)
 
 unfoldable pub body : Option ℕ → List ℤ → List ℕ
-body limit list = wordBytes (map chunkWord (chunksOf limit list)) ++ deltas (take (takenOf limit list) list)
+body limit list = chunkBytes (map chunkWord (chunksOf limit list)) ++ deltas (take (takenOf limit list) list)
 
 -- its bytes without padding, and with it
 abbrev pub usedOf : Option ℕ → List ℤ → ℕ

@@ -5,12 +5,12 @@ use mathlib.Core.Bool.{Bool, cond, _&&_, _||_}
 use lib.Dec.{ltb, leb, eqb}
 use lib.ListN.{length, getD, take}
 use Rattle.twcc.specs.Words.{widthOf}
-use Rattle.twcc.specs.Chunks.{Chunk, Run, One, Two}
+use Rattle.twcc.specs.Chunks.{longestRun, Chunk, Run, One, Two}
 use Rattle.twcc_plan.specs.Front.{front}
 
 -- r: the run of equal symbols from the front, at most 8,191
 unfoldable pub runOf : List ℕ → ℕ
-runOf ss = min 8191 (front (eqb (getD ss 0 0)) ss)
+runOf ss = min longestRun (front (eqb (getD ss 0 0)) ss)
 
 -- b: the front entries with symbol 0 or 1, at most 14
 abbrev pub oneBit : ℕ → Bool

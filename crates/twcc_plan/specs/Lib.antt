@@ -2,6 +2,8 @@ pub mod Front
 pub mod Choice
 pub mod Limits
 pub mod Plan
+pub mod Planned
 pub mod Block
-pub mod PlanLaws
-pub mod BlockLaws
+pub mod Promise
+pub mod Picked
+pub mod Steps

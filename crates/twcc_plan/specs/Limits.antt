@@ -1,11 +1,28 @@
--- The step rule: what a size limit makes of the chunk that was picked (docs/RULES.md, TWCC writing).
-use Prim.Native.Nat.{ℕ, zero, suc, _+_, _*_, _-_, _/_}
+-- A size limit, and the step rule: what a limit makes of the chunk that was picked (docs/RULES.md, TWCC writing).
+use Prim.Native.Nat.{ℕ, zero, suc, _+_, _*_, _-_, _/_, _≤_}
 use mathlib.Core.List.{List}
 use mathlib.Core.Option.{Option, none, some}
 use mathlib.Core.Bool.{cond}
 use lib.Dec.{ltb}
 use Rattle.twcc.specs.Chunks.{Chunk, Run, One, Two}
 use Rattle.twcc_plan.specs.Choice.{chunkFor, widthBy}
+use Rattle.twcc_plan.specs.declared.Limit.{Limit}
+use Rattle.twcc_plan.specs.declared.Limit.the-variants.{Absent, Bytes}
+
+-- a limit as the definitions have it
+abbrev pub limitOf : Limit → Option ℕ
+limitOf Absent = none
+limitOf (Bytes bytes) = some bytes
+
+-- so many bytes keep within a limit
+abbrev pub Within : Option ℕ → ℕ → Type 0
+Within none n = Unit {0}
+Within (some limit) n = n ≤ limit
+
+-- a limit under which every block takes an entry
+abbrev pub Wide : Option ℕ → Type 0
+Wide none = Unit {0}
+Wide (some limit) = 24 ≤ limit
 
 abbrev pub upFour : ℕ → ℕ
 upFour n = (n + 3) / 4 * 4

@@ -1,3 +1,3 @@
 pub mod Promise
 pub mod Within
-pub mod Unique
+pub mod Filled

@@ -10,7 +10,7 @@ use Rattle.refusal.specs.Outcome.{Outcome, gave, refuse}
 use Rattle.refusal.specs.Number.{no}
 use Rattle.lent.specs.After.{after}
 use Rattle.twcc.specs.Block.{listed}
-use Rattle.twcc_walk.specs.Cursors.{headerOf}
+use Rattle.twcc_cursors.specs.Cursors.{headerOf}
 use Rattle.twcc_read.specs.declared.Listed.{Listed}
 use Rattle.twcc_read.specs.declared.Reading.{Reading}
 use Rattle.twcc_read.specs.declared.Reading.the-variants.{Block, No}

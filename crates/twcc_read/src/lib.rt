@@ -1,6 +1,9 @@
 // The TWCC block reader.
+mod fill;
+
 use refusal::Refusal;
-use twcc_walk::Header;
+use twcc_cursors::Headed;
+use twcc_cursors::Header;
 ghost use Rattle.twcc_read.specs.Promise.{Reads};
 
 // What a block says: its header, and how many entries it lists.
@@ -19,19 +22,19 @@ pub enum Reading {
 pub fn read(block: &[u8], list: &mut [i32]) -> Reading
     ensures { λ r. ⌜ Reads (now (block .entry)) (now (list .entry)) r (now (list .exit)) ⌝ }
 {
-    if block.len() < 8 {
-        return Reading::No(Refusal::Truncated {
-            expected: 8,
-            actual: block.len(),
-        });
+    match Header::of(block) {
+        Headed::No(r) => Reading::No(r),
+        Headed::Header(header) => {
+            let counts = twcc_cursors::count(block);
+            let count = counts.listed;
+            if list.len() < count {
+                return Reading::No(Refusal::OutputTooSmall {
+                    needed: count,
+                    present: list.len(),
+                });
+            }
+            fill::fill_all(block, header.statuses as usize, counts.start, list);
+            Reading::Block(Listed { header, count })
+        }
     }
-    let count = twcc_fill::fill(block, list);
-    if list.len() < count {
-        return Reading::No(Refusal::OutputTooSmall {
-            needed: count,
-            present: list.len(),
-        });
-    }
-    let header = Header::of(block);
-    Reading::Block(Listed { header, count })
 }

@@ -9,14 +9,15 @@ use lib.IntN.{ℤ}
 use lib.ListN.{length, getD, take, drop, replicate, length-append, length-take, length-drop, length-map}
 use lib.Seq.{sets, take-take, drop-drop}
 use Rattle.twcc.specs.Words.{symbolOf, deltas}
-use Rattle.twcc.specs.Chunks.{Chunk, Run, One, Two, Below, chunkWord, standsFor}
-use Rattle.twcc.specs.Written.{symbols-lt, wordBytes}
+use Rattle.twcc.specs.Chunks.{runsEnd, onesEnd, runWeight, Chunk, Run, One, Two, Below, chunkWord, standsFor, chunkBytes}
+use Rattle.twcc.proofs.Written.{symbols-lt}
 use Rattle.twcc_plan.specs.Choice.{takenBy, widthBy}
 use Rattle.twcc_plan.specs.Plan.{takenIn}
-use Rattle.twcc_plan.specs.PlanLaws.{Good, Planned, good-taken, good-agrees, front-run, below-take, below-drop, planned-reads}
-use Rattle.twcc_plan.specs.BlockLaws.{valid-drop}
-use Rattle.twcc_write.specs.Stores.{Stored, Reached, ChunkStorable, Deliverable}
-use Rattle.twcc_chunks.proofs.Stepping.{drop-symbols}
+use Rattle.twcc_plan.specs.Planned.{Good, Planned}
+use Rattle.twcc_plan.proofs.PlanLaws.{good-taken, good-agrees, front-run, below-take, below-drop, planned-reads}
+use Rattle.twcc_plan.proofs.BlockLaws.{valid-drop}
+use Rattle.twcc_write.specs.Stores.{Stored, Reached, ChunkStorable, Carriable}
+use Rattle.twcc_plan.proofs.Stepping.{drop-symbols}
 use Rattle.twcc_write.proofs.Bytes.{deltas-split}
 
 -- ---- the loop: c chunks and n entries are done, p is where their deltas end
@@ -27,13 +28,13 @@ pub record Carrying (list : List ℤ) (chunks taken : ℕ) (out₀ out : List �
   pub planned : Planned none used left (drop n (map symbolOf list))
   pub count : c + length left ≡ chunks
   pub takes : n + takenIn left ≡ taken
-  pub stands : (i : ℕ) → i < 2 * length left → getD out (8 + 2 * c + i) 0 ≡ getD (wordBytes (map chunkWord left)) i 0
+  pub stands : (i : ℕ) → i < 2 * length left → getD out (8 + 2 * c + i) 0 ≡ getD (chunkBytes (map chunkWord left)) i 0
   pub same : length out ≡ length out₀
   pub behind : 8 + 2 * chunks ≤ p
   pub place : p + length (deltas (take (taken - n) (drop n list))) ≡ 8 + 2 * chunks + length (deltas (take taken list))
   pub stored : sets out p (deltas (take (taken - n) (drop n list))) ≡ sets out₀ (8 + 2 * chunks) (deltas (take taken list))
 
-pub carrying-start : {list : List ℤ} {chunks taken : ℕ} {out : List ℕ} {end : ℕ} → Deliverable list chunks taken out end → Carrying list chunks taken out out (8 + 2 * chunks) 0 0
+pub carrying-start : {list : List ℤ} {chunks taken : ℕ} {out : List ℕ} {end : ℕ} → Carriable list chunks taken out end → Carrying list chunks taken out out (8 + 2 * chunks) 0 0
 carrying-start d =
     record {
       left = d .plan;
@@ -48,11 +49,11 @@ carrying-start d =
       stored = rw sub-zero refl;
     }
 
--- what the next chunk's word tells, and where its deltas leave the loop
-pub record Carried (list : List ℤ) (chunks taken : ℕ) (out₀ : List ℕ) (end : ℕ) (out : List ℕ) (p n c word entries : ℕ) : Type 0 where
+-- what the next chunk's chunk tells, and where its deltas leave the loop
+pub record Carried (list : List ℤ) (chunks taken : ℕ) (out₀ : List ℕ) (end : ℕ) (out : List ℕ) (p n c chunk entries : ℕ) : Type 0 where
   pub inside : n ≤ length list
   pub few : n + entries ≤ taken
-  pub storable : ChunkStorable (drop n list) word entries out p
+  pub storable : ChunkStorable (drop n list) chunk entries out p
   pub further : (p′ : ℕ) (new : List ℕ) → length new ≡ length out → Reached (drop n list) entries out p end p′ new
       → Carrying list chunks taken out₀ new p′ (n + entries) (c + 1)
 
@@ -62,19 +63,19 @@ sum-ends p p′ a b whole total end sizes place next ends = omega arith
 two-more : (i m : ℕ) → i < 2 * m → suc (suc i) < 2 * suc m
 two-more i m inside = omega arith
 
-words-before : (c i m chunks p : ℕ) → i < 2 * m → c + suc m ≡ chunks → 8 + 2 * chunks ≤ p → 8 + 2 * c + suc (suc i) < p
-words-before c i m chunks p inside count behind = omega arith
+chunks-before : (c i m chunks p : ℕ) → i < 2 * m → c + suc m ≡ chunks → 8 + 2 * chunks ≤ p → 8 + 2 * c + suc (suc i) < p
+chunks-before c i m chunks p inside count behind = omega arith
 
-run-entries : (list : List ℤ) (n : ℕ) (c : Chunk) → Good (drop n (map symbolOf list)) c → chunkWord c < 32768
-    → (chunkWord c / 8192 ≤ 2) × (take (takenBy c) (map symbolOf (drop n list)) ≡ replicate (takenBy c) (chunkWord c / 8192))
+run-entries : (list : List ℤ) (n : ℕ) (c : Chunk) → Good (drop n (map symbolOf list)) c → chunkWord c < runsEnd
+    → (chunkWord c / runWeight ≤ 2) × (take (takenBy c) (map symbolOf (drop n list)) ≡ replicate (takenBy c) (chunkWord c / runWeight))
 unfolding chunkWord takenBy
 run-entries list n (Run s r) good run =
-    let symbol : (s * 8192 + r) / 8192 ≡ s = omega arith in
+    let symbol : (s * runWeight + r) / runWeight ≡ s = omega arith in
     (omega arith, rw (drop-symbols, symbol) (front-run s r (drop n (map symbolOf list)) (good .3)))
 run-entries list n (One xs) good run = absurd (omega arith)
 run-entries list n (Two xs) good run = absurd (omega arith)
 
-one-entries : (list : List ℤ) (n : ℕ) (c : Chunk) → Good (drop n (map symbolOf list)) c → 32768 ≤ chunkWord c → chunkWord c < 49152
+one-entries : (list : List ℤ) (n : ℕ) (c : Chunk) → Good (drop n (map symbolOf list)) c → runsEnd ≤ chunkWord c → chunkWord c < onesEnd
     → Below 2 (take (takenBy c) (map symbolOf (drop n list)))
 unfolding chunkWord takenBy
 one-entries list n (Run s r) good vector one = absurd (omega arith)
@@ -85,17 +86,17 @@ one-entries list n (One xs) good vector one =
     rw drop-symbols (rw (take-take (length xs) 14 ss few) at below)
 one-entries list n (Two xs) good vector one = absurd (omega arith)
 
-module _ {list : List ℤ} {chunks taken : ℕ} {out₀ out : List ℕ} {end p n c : ℕ} (d : Deliverable list chunks taken out₀ end) where
+module _ {list : List ℤ} {chunks taken : ℕ} {out₀ out : List ℕ} {end p n c : ℕ} (d : Carriable list chunks taken out₀ end) where
   next : (ch : Chunk) (later : List Chunk) (used : ℕ) → Planned none used (ch ∷ later) (drop n (map symbolOf list)) → c + suc (length later) ≡ chunks
       → n + (takenBy ch + takenIn later) ≡ taken
-      → ((i : ℕ) → i < 2 * suc (length later) → getD out (8 + 2 * c + i) 0 ≡ getD (wordBytes (map chunkWord (ch ∷ later))) i 0)
+      → ((i : ℕ) → i < 2 * suc (length later) → getD out (8 + 2 * c + i) 0 ≡ getD (chunkBytes (map chunkWord (ch ∷ later))) i 0)
       → length out ≡ length out₀ → 8 + 2 * chunks ≤ p
       → p + length (deltas (take (taken - n) (drop n list))) ≡ 8 + 2 * chunks + length (deltas (take taken list))
       → sets out p (deltas (take (taken - n) (drop n list))) ≡ sets out₀ (8 + 2 * chunks) (deltas (take taken list))
-      → (word : ℕ) → word ≡ 256 * getD out (8 + 2 * c) 0 + getD out (9 + 2 * c) 0 → (entries : ℕ) → entries ≡ min (length (standsFor word)) (taken - n)
-      → Carried list chunks taken out₀ end out p n c word entries
-  unfolding wordBytes
-  next ch later used planned count takes stands same behind place stored word reads entries few =
+      → (chunk : ℕ) → chunk ≡ 256 * getD out (8 + 2 * c) 0 + getD out (9 + 2 * c) 0 → (entries : ℕ) → entries ≡ min (length (standsFor chunk)) (taken - n)
+      → Carried list chunks taken out₀ end out p n c chunk entries
+  unfolding chunkBytes
+  next ch later used planned count takes stands same behind place stored chunk reads entries few =
       let ss = drop n (map symbolOf list) in
       let below = below-drop 3 n (map symbolOf list) (symbols-lt list) in
       let first : getD out (8 + 2 * c + 0) 0 ≡ chunkWord ch / 256 = stands 0 (omega arith) in
@@ -104,13 +105,13 @@ module _ {list : List ℤ} {chunks taken : ℕ} {out₀ out : List ℕ} {end p n
       let at₁ : 8 + 2 * c + 1 ≡ 9 + 2 * c = omega arith in
       let high : getD out (8 + 2 * c) 0 ≡ chunkWord ch / 256 = rw at₀ at first in
       let low : getD out (9 + 2 * c) 0 ≡ chunkWord ch % 256 = rw at₁ at second in
-      let is : word ≡ chunkWord ch = omega (arith, reads, high, low) in
+      let is : chunk ≡ chunkWord ch = omega (arith, reads, high, low) in
       let size : length ss ≡ length list - n = rw (length-drop, length-map) in
       let agrees = good-agrees ss ch below (planned .0) in
       let some = good-taken ss ch (planned .0) in
       let rest = planned-reads none (used + 2 + widthBy ch) later (drop (takenBy ch) ss) (below-drop 3 (takenBy ch) ss below) (planned .1) in
       let fit : takenIn later ≤ length ss - takenBy ch = rw length-drop at (rest .fits) in
-      let stand : length (standsFor word) ≡ length (standsFor (chunkWord ch)) = ap (λ (w : ℕ). length (standsFor w)) is in
+      let stand : length (standsFor chunk) ≡ length (standsFor (chunkWord ch)) = ap (λ (w : ℕ). length (standsFor w)) is in
       let all : entries ≡ takenBy ch = omega (arith, few, stand, agrees .all, some, fit, takes) in
       let whole : taken - n ≡ entries + takenIn later = omega arith in
       let after : taken - (n + entries) ≡ takenIn later = omega arith in
@@ -137,7 +138,7 @@ module _ {list : List ℤ} {chunks taken : ℕ} {out₀ out : List ℕ} {end p n
           takes = omega arith;
           stands = λ i inside.
               let index : 8 + 2 * (c + 1) + i ≡ 8 + 2 * c + suc (suc i) = omega arith in
-              let before : 8 + 2 * c + suc (suc i) < p = words-before c i (length later) chunks p inside count behind in
+              let before : 8 + 2 * c + suc (suc i) < p = chunks-before c i (length later) chunks p inside count behind in
               rw index (delivered .kept (8 + 2 * c + suc (suc i)) before ∙ stands (suc (suc i)) (two-more i (length later) inside));
           same = kept ∙ same;
           behind = omega (arith, delivered .next);
@@ -148,15 +149,15 @@ module _ {list : List ℤ} {chunks taken : ℕ} {out₀ out : List ℕ} {end p n
         };
       }
 
-  pub carried : Carrying list chunks taken out₀ out p n c → c < chunks → (word : ℕ) → word ≡ 256 * getD out (8 + 2 * c) 0 + getD out (9 + 2 * c) 0
-      → (entries : ℕ) → entries ≡ min (length (standsFor word)) (taken - n) → Carried list chunks taken out₀ end out p n c word entries
+  pub carried : Carrying list chunks taken out₀ out p n c → c < chunks → (chunk : ℕ) → chunk ≡ 256 * getD out (8 + 2 * c) 0 + getD out (9 + 2 * c) 0
+      → (entries : ℕ) → entries ≡ min (length (standsFor chunk)) (taken - n) → Carried list chunks taken out₀ end out p n c chunk entries
   unfolding takenIn
-  carried k more word reads entries few = go (k .left) refl
+  carried k more chunk reads entries few = go (k .left) refl
     where
-      go : (left : List Chunk) → k .left ≡ left → Carried list chunks taken out₀ end out p n c word entries
+      go : (left : List Chunk) → k .left ≡ left → Carried list chunks taken out₀ end out p n c chunk entries
       go [] e = absurd (omega (arith, ap length e, k .count))
       go (ch ∷ later) e =
-          next ch later (k .used) (rw e at (k .planned)) (rw e at (k .count)) (rw e at (k .takes)) (rw e at (k .stands)) (k .same) (k .behind) (k .place) (k .stored) word reads entries few
+          next ch later (k .used) (rw e at (k .planned)) (rw e at (k .count)) (rw e at (k .takes)) (rw e at (k .stands)) (k .same) (k .behind) (k .place) (k .stored) chunk reads entries few
 
   pub carrying-over : Carrying list chunks taken out₀ out p n c → chunks ≤ c → Stored list taken out₀ (8 + 2 * chunks) out
   unfolding takenIn deltas

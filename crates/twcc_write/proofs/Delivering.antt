@@ -10,7 +10,7 @@ use lib.ListN.{length, take, drop, set, length-append}
 use lib.Seq.{sets, drop-cons}
 use Rattle.lent.proofs.Laws.{sets-append}
 use Rattle.twcc.specs.Words.{symbolOf, bits16, bytesFor, deltaBytes, deltas}
-use Rattle.twcc.specs.Written.{symbol-lt, length-delta}
+use Rattle.twcc.proofs.Written.{symbol-lt, length-delta}
 use Rattle.twcc_write.specs.Stores.{wordAt, DeltaStored, Storable, Stored}
 
 -- ---- one delta, by its symbol

@@ -13,16 +13,16 @@ use lib.Seq.{sets, set-comm}
 use Rattle.lent.specs.Bytes.{zeroBytes}
 use Rattle.lent.proofs.Laws.{sets-append}
 use Rattle.twcc.specs.Words.{symbolOf, deltas}
-use Rattle.twcc.specs.Chunks.{chunkWord}
-use Rattle.twcc.specs.Written.{by-test, wordBytes}
-use Rattle.twcc_plan.specs.Limits.{upFour}
+use Rattle.twcc.specs.Chunks.{chunkWord, chunkBytes}
+use Rattle.octets.proofs.Logic.{by-test}
+use Rattle.twcc_plan.specs.Limits.{upFour, Within}
 use Rattle.twcc_plan.specs.Block.{header, chunksOf, takenOf, body, usedOf, sizeOf, blockBytes}
-use Rattle.twcc_plan.specs.BlockLaws.{length-words, block-planned, used-is}
-use Rattle.twcc_plan.specs.PlanLaws.{Within, planned-free}
-use Rattle.twcc_chunks.specs.Plans.{Plans}
+use Rattle.twcc_plan.proofs.BlockLaws.{length-chunks, block-planned, used-is}
+use Rattle.twcc_plan.proofs.PlanLaws.{planned-free}
+use Rattle.twcc_plan.specs.Promise.{Plans}
 use Rattle.twcc_write.specs.Limits.{limitWithin}
-use Rattle.twcc_write.specs.Stores.{Storable, Stored, Deliverable, Writable, Filled}
-use Rattle.twcc_chunks.specs.declared.Plan.{Plan}
+use Rattle.twcc_write.specs.Stores.{Storable, Stored, Carriable, BlockStorable, BlockStored}
+use Rattle.twcc_plan.specs.declared.Plan.{Plan}
 use Rattle.twcc_write.proofs.Bytes.{getD-stored}
 
 -- ---- stores in another order
@@ -39,9 +39,9 @@ sets-before l i j xs (y ∷ ys) apart =
 
 -- ---- a block
 
-module _ {time : ℕ} {list : List ℤ} {limit : Option ℕ} {l₀ l₁ : List ℕ} {p : Plan} (writable : Writable time list limit l₀) (plans : Plans list limit l₀ p l₁) where
-  abbrev words : List ℕ
-  words = wordBytes (map chunkWord (chunksOf limit list))
+module _ {time : ℕ} {list : List ℤ} {limit : Option ℕ} {l₀ l₁ : List ℕ} {p : Plan} (storable : BlockStorable time list limit l₀) (plans : Plans list limit l₀ p l₁) where
+  abbrev first : List ℕ
+  first = chunkBytes (map chunkWord (chunksOf limit list))
 
   abbrev last : List ℕ
   last = deltas (take (takenOf limit list) list)
@@ -49,43 +49,43 @@ module _ {time : ℕ} {list : List ℤ} {limit : Option ℕ} {l₀ l₁ : List �
   taken-is : deltas (take (p .taken) list) ≡ last
   taken-is = ap (λ (n : ℕ). deltas (take n list)) (plans .taken)
 
-  start-is : 8 + 2 * p .chunks ≡ 8 + length words
-  start-is = omega (arith, plans .chunks, length-words (map chunkWord (chunksOf limit list)), length-map (chunksOf limit list) chunkWord)
+  start-is : 8 + 2 * p .chunks ≡ 8 + length first
+  start-is = omega (arith, plans .chunks, length-chunks (map chunkWord (chunksOf limit list)), length-map (chunksOf limit list) chunkWord)
 
   all-used : p .used ≡ usedOf limit list
-  all-used = plans .used ∙ sym (used-is limit list (writable .plannable .eight))
+  all-used = plans .used ∙ sym (used-is limit list (storable .plannable .eight))
 
   used-sum : usedOf limit list ≡ 8 + 2 * p .chunks + length (deltas (take (p .taken) list))
   unfolding body
-  used-sum = omega (arith, length-append words last, start-is, ap length taken-is)
+  used-sum = omega (arith, length-append first last, start-is, ap length taken-is)
 
   deltas-storable : length l₁ ≡ length l₀ → Storable list (p .taken) l₁ (8 + 2 * p .chunks)
   deltas-storable kept =
-      record { inside = plans .inside; valid = writable .valid; room = omega (arith, used-sum, writable .room, kept) }
+      record { inside = plans .inside; valid = storable .valid; room = omega (arith, used-sum, storable .room, kept) }
 
-  pub deliverable : length l₁ ≡ length l₀ → Deliverable list (p .chunks) (p .taken) l₁ (p .used)
+  pub deliverable : length l₁ ≡ length l₀ → Carriable list (p .chunks) (p .taken) l₁ (p .used)
   unfolding takenOf
   deliverable kept =
-      let room : 8 + length words ≤ length l₀ = omega (arith, used-sum, writable .room, start-is) in
+      let room : 8 + length first ≤ length l₀ = omega (arith, used-sum, storable .room, start-is) in
       record {
         storable = deltas-storable kept;
         ends = all-used ∙ used-sum;
-        short = writable .plannable .short;
+        short = storable .plannable .short;
         plan = chunksOf limit list;
-        planned = planned-free limit 8 (chunksOf limit list) (map symbolOf list) (block-planned limit list (writable .plannable .eight));
+        planned = planned-free limit 8 (chunksOf limit list) (map symbolOf list) (block-planned limit list (storable .plannable .eight));
         count = plans .chunks;
         takes = plans .taken;
         stands = λ i inside.
-            rw (plans .words) (getD-stored l₀ 8 words i 0 (omega (arith, start-is, plans .chunks)) room);
+            rw (plans .stored) (getD-stored l₀ 8 first i 0 (omega (arith, start-is, plans .chunks)) room);
       }
 
   module _ {l₂ : List ℕ} (stored : Stored list (p .taken) l₁ (8 + 2 * p .chunks) l₂) where
     bodied : l₂ ≡ sets l₀ 8 (body limit list)
     unfolding body
-    bodied = stored ∙ rw (start-is, taken-is, plans .words) (sets-append l₀ 8 words last)
+    bodied = stored ∙ rw (start-is, taken-is, plans .stored) (sets-append l₀ 8 first last)
 
     pub filled : (base feedback bytes : ℕ) (l₃ l₄ : List ℕ) → bytes ≡ p .bytes → l₃ ≡ sets l₂ (p .used) (zeroBytes (bytes - p .used))
-        → l₄ ≡ sets l₃ 0 (header base (p .taken) time feedback) → Filled base time feedback list limit l₀ (record { bytes = bytes; taken = p .taken }) l₄
+        → l₄ ≡ sets l₃ 0 (header base (p .taken) time feedback) → BlockStored base time feedback list limit l₀ (record { bytes = bytes; taken = p .taken }) l₄
     unfolding blockBytes header
     filled base feedback bytes l₃ l₄ sized padded headed =
         let size : bytes ≡ sizeOf limit list = sized ∙ plans .bytes ∙ ap upFour all-used in

@@ -6,3 +6,4 @@ pub mod Running
 pub mod Carrying
 pub mod Joining
 pub mod Answers
+pub mod Unique

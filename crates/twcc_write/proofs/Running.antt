@@ -7,10 +7,11 @@ use lib.IntN.{ℤ, pos}
 use lib.ListN.{length, getD, take, set, replicate, length-set, getD-replicate}
 use lib.Seq.{getD-take}
 use Rattle.twcc.specs.Words.{symbolOf, bits16, deltas, widthOf}
-use Rattle.twcc.specs.Written.{length-deltas}
-use Rattle.twcc_plan.specs.PlanLaws.{width-run}
-use Rattle.twcc_plan.specs.BlockLaws.{take-symbols}
-use Rattle.twcc_pick.proofs.Symbols.{symbol-there}
+use Rattle.twcc.specs.Chunks.{runsEnd, runWeight}
+use Rattle.twcc.proofs.Written.{length-deltas}
+use Rattle.twcc_plan.proofs.PlanLaws.{width-run}
+use Rattle.twcc_plan.proofs.BlockLaws.{take-symbols}
+use Rattle.twcc_plan.proofs.Symbols.{symbol-there}
 use Rattle.twcc_write.specs.Stores.{wordAt, DeltaStored, Stored, Reached, RunStorable, ChunkStorable}
 use Rattle.twcc_write.proofs.Spreading.{exact-reached}
 use Rattle.twcc_write.proofs.Delivering.{Delivering, delivering-turn, small-stored, large-stored}
@@ -45,28 +46,28 @@ module _ {list : List ℤ} {entries : ℕ} {out₀ out : List ℕ} {at n bits : 
       delivering-turn d (run .storable) more _ _ (length-set (set out p (bits / 256)) (p + 1) (bits % 256) ∙ length-set out p (bits / 256))
       (moved (omega arith) (large-stored list n out p _ (sym (run-symbol run n more)) bits low (λ e. omega arith) (λ e. omega arith)))
 
--- ---- a chunk's deltas, by what its word was tested for
+-- ---- a chunk's deltas, by what it was tested for
 
 none-left : (xs : List ℕ) → length xs ≡ 0 → xs ≡ []
 none-left [] e = refl
 none-left (x ∷ xs) e = absurd (omega arith)
 
-module _ {list : List ℤ} {word entries : ℕ} {out : List ℕ} {at : ℕ} (chunk : ChunkStorable list word entries out at) where
-  pub chunk-run : (symbol : ℕ) → word < 32768 → word / 8192 ≡ symbol → RunStorable list symbol entries out at
+module _ {list : List ℤ} {chunk entries : ℕ} {out : List ℕ} {at : ℕ} (ready : ChunkStorable list chunk entries out at) where
+  pub chunk-run : (symbol : ℕ) → chunk < runsEnd → chunk / runWeight ≡ symbol → RunStorable list symbol entries out at
   chunk-run symbol is-run is =
-      record { storable = chunk .storable; same = chunk .run is-run .1 ∙ ap (λ (s : ℕ). replicate entries s) is }
+      record { storable = ready .storable; same = ready .run is-run .1 ∙ ap (λ (s : ℕ). replicate entries s) is }
 
-  pub lost-stored : (end : ℕ) → word < 8192 → Reached list entries out at end at out
+  pub lost-stored : (end : ℕ) → chunk < runWeight → Reached list entries out at end at out
   lost-stored end lost =
       let none = run-width (chunk-run 0 (omega arith) (omega arith)) (omega arith) in
       let bytes = none-left (deltas (take entries list)) (omega (arith, none)) in
       exact-reached (omega (arith, none)) (rw bytes)
 
-  pub small-reached : (end : ℕ) {new : List ℕ} → 8192 ≤ word → word < 16384 → Stored list entries out at new → Reached list entries out at end (at + entries) new
+  pub small-reached : (end : ℕ) {new : List ℕ} → runWeight ≤ chunk → chunk < 2 * runWeight → Stored list entries out at new → Reached list entries out at end (at + entries) new
   small-reached end low high = exact-reached (omega (arith, run-width (chunk-run 1 (omega arith) (omega arith)) (omega arith)))
 
-  pub large-symbol : 16384 ≤ word → word < 32768 → word / 8192 ≡ 2
-  large-symbol low high = omega (arith, chunk .run high .0)
+  pub large-symbol : 2 * runWeight ≤ chunk → chunk < runsEnd → chunk / runWeight ≡ 2
+  large-symbol low high = omega (arith, ready .run high .0)
 
-  pub large-reached : (end : ℕ) {new : List ℕ} → 16384 ≤ word → word < 32768 → Stored list entries out at new → Reached list entries out at end (at + 2 * entries) new
+  pub large-reached : (end : ℕ) {new : List ℕ} → 2 * runWeight ≤ chunk → chunk < runsEnd → Stored list entries out at new → Reached list entries out at end (at + 2 * entries) new
   large-reached end low high = exact-reached (omega (arith, run-width (chunk-run 2 high (large-symbol low high)) (omega arith)))

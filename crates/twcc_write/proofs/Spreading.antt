@@ -13,11 +13,12 @@ use lib.Seq.{sets, set-set, set-comm, take-suc, take-take, getD-take, getD-set-o
 use Rattle.lent.proofs.Laws.{sets-append}
 use Rattle.twcc.specs.Words.{symbolOf, bits16, bytesFor, deltaBytes, deltas}
 use Rattle.twcc.specs.Chunks.{Below}
-use Rattle.twcc.specs.Written.{by-test, symbol-lt, symbols-lt, length-delta, length-deltas}
-use Rattle.twcc_plan.specs.PlanLaws.{below-take, width-le}
-use Rattle.twcc_plan.specs.BlockLaws.{take-symbols}
-use Rattle.twcc_pick.proofs.Symbols.{symbol-there}
-use Rattle.twcc_pick.proofs.Fourteen.{below-at}
+use Rattle.octets.proofs.Logic.{by-test}
+use Rattle.twcc.proofs.Written.{symbol-lt, symbols-lt, length-delta, length-deltas}
+use Rattle.twcc_plan.proofs.PlanLaws.{below-take, width-le}
+use Rattle.twcc_plan.proofs.BlockLaws.{take-symbols}
+use Rattle.twcc_plan.proofs.Symbols.{symbol-there}
+use Rattle.twcc_plan.proofs.Fourteen.{below-at}
 use Rattle.twcc_write.specs.Stores.{wordAt, DeltaStorable, DeltaStored, QuickStored, Storable, Stored, Reached}
 use Rattle.twcc_write.proofs.Words.{valid-at, small-bits}
 use Rattle.twcc_write.proofs.Bytes.{getD-before, deltas-append, deltas-few}
@@ -167,7 +168,7 @@ module _ {list : List ℤ} {entries : ℕ} {out₀ out : List ℕ} {at end p n :
           });
         }
 
--- ---- how far they go at most
+-- ---- how far they go at mostEntries
 
 pub symbol-below : (list : List ℤ) (entries n : ℕ) → Below 2 (take entries (map symbolOf list)) → n < entries → entries ≤ length list → symbolOf (wordAt list n) < 2
 symbol-below list entries n below more inside =

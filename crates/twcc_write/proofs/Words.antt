@@ -12,8 +12,8 @@ use lib.ListN.{length, getD}
 use lib.Signed.{nonNeg}
 use mir.Syntax.{w8, w32}
 use mir.Val.{Fits, SFits}
-use Rattle.twcc.specs.Words.{Valid, AllValid, symbolOf, bits16}
-use Rattle.twcc.specs.Written.{by-test}
+use Rattle.twcc.specs.Words.{half, Valid, AllValid, symbolOf, bits16}
+use Rattle.octets.proofs.Logic.{by-test}
 
 pub valid-at : (list : List ℤ) (n : ℕ) (d : ℤ) → AllValid list → n < length list → Valid (getD list n d)
 valid-at [] n d valid inside = absurd (not-suc-le-zero inside)
@@ -59,7 +59,7 @@ pub small-bits : (w : ℤ) → symbolOf w ≡ 1 → bits16 w < 256
 unfolding symbolOf bits16
 small-bits (pos n) one =
     by-test (ltb n 256) (λ e. ltb-true n 256 e)
-    (λ e. by-test (ltb n 32768)
+    (λ e. by-test (ltb n half)
     (λ f. absurd (let z : _≡_ {A = ℕ} 2 1 = rw (e, f) at one in omega arith))
     (λ f. absurd (let z : _≡_ {A = ℕ} 0 1 = rw (e, f) at one in omega arith)))
 small-bits (negsuc n) one = absurd (omega arith)

@@ -1,4 +1,3 @@
 pub mod Limits
-pub mod Stores
 pub mod Promise
-pub mod Unique
+pub mod Stores

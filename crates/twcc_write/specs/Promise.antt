@@ -11,7 +11,7 @@ use Rattle.refusal.specs.Outcome.{Outcome, gave, refuse}
 use Rattle.refusal.specs.Number.{no}
 use Rattle.lent.specs.After.{after}
 use Rattle.twcc.specs.Time.{tooLate}
-use Rattle.twcc_plan.specs.Block.{most, firstBad, takenOf, sizeOf, blockBytes}
+use Rattle.twcc_plan.specs.Block.{mostEntries, firstBad, takenOf, sizeOf, blockBytes}
 use Rattle.twcc_write.specs.Limits.{leastOf}
 use Rattle.twcc_write.specs.declared.Used.{Used}
 use Rattle.twcc_write.specs.declared.Written.{Written}
@@ -25,7 +25,7 @@ saidWritten (No r) = no r
 unfoldable pub written : ℕ → List ℤ → Option ℕ → ℕ → Outcome Used
 written time list limit room =
     cond (tooLate time) (refuse 10 (time ∷ []))
-    (cond (ltb most (length list)) (refuse 13 (length list ∷ []))
+    (cond (ltb mostEntries (length list)) (refuse 13 (length list ∷ []))
     (cond (ltb (firstBad list) (length list)) (refuse 12 (firstBad list ∷ []))
     (cond (ltb (leastOf limit) 8) (refuse 14 (leastOf limit ∷ []))
     (cond (ltb room (sizeOf limit list)) (refuse 15 (sizeOf limit list ∷ room ∷ []))

@@ -8,11 +8,11 @@ use lib.ListN.{length, getD, take, replicate}
 use lib.Seq.{sets}
 use Rattle.twcc.specs.Time.{latest}
 use Rattle.twcc.specs.Words.{Valid, AllValid, symbolOf, deltaBytes, deltas}
-use Rattle.twcc.specs.Chunks.{Chunk, Below, chunkWord}
-use Rattle.twcc.specs.Written.{wordBytes}
+use Rattle.twcc.specs.Chunks.{runsEnd, onesEnd, runWeight, Chunk, Below, chunkWord, chunkBytes}
 use Rattle.twcc_plan.specs.Plan.{takenIn}
-use Rattle.twcc_plan.specs.Block.{most, takenOf, sizeOf, blockBytes}
-use Rattle.twcc_plan.specs.PlanLaws.{Within, Planned}
+use Rattle.twcc_plan.specs.Block.{mostEntries, takenOf, sizeOf, blockBytes}
+use Rattle.twcc_plan.specs.Limits.{Within}
+use Rattle.twcc_plan.specs.Planned.{Planned}
 use Rattle.twcc_write.specs.declared.Used.{Used}
 
 -- ---- one delta
@@ -55,37 +55,37 @@ pub record RunStorable (list : List ℤ) (symbol entries : ℕ) (out : List ℕ)
   pub storable : Storable list entries out at
   pub same : take entries (map symbolOf list) ≡ replicate entries symbol
 
--- they are those of a chunk: of a run's word, all have its symbol; of a one-bit vector's, none is large
-pub record ChunkStorable (list : List ℤ) (word entries : ℕ) (out : List ℕ) (at : ℕ) : Type 0 where
+-- they are those of a chunk: of a run, all have its symbol; of a one-bit vector, none is large
+pub record ChunkStorable (list : List ℤ) (chunk entries : ℕ) (out : List ℕ) (at : ℕ) : Type 0 where
   pub storable : Storable list entries out at
-  pub run : word < 32768 → (word / 8192 ≤ 2) × (take entries (map symbolOf list) ≡ replicate entries (word / 8192))
-  pub ones : 32768 ≤ word → word < 49152 → Below 2 (take entries (map symbolOf list))
+  pub run : chunk < runsEnd → (chunk / runWeight ≤ 2) × (take entries (map symbolOf list) ≡ replicate entries (chunk / runWeight))
+  pub ones : runsEnd ≤ chunk → chunk < onesEnd → Below 2 (take entries (map symbolOf list))
 
--- the words of a plan's chunks stand behind the header's place, and there is room for the deltas
-pub record Deliverable (list : List ℤ) (chunks taken : ℕ) (out : List ℕ) (end : ℕ) : Type 0 where
+-- a plan's chunks stand behind the header's place, and there is room for the deltas
+pub record Carriable (list : List ℤ) (chunks taken : ℕ) (out : List ℕ) (end : ℕ) : Type 0 where
   pub storable : Storable list taken out (8 + 2 * chunks)
   pub ends : end ≡ 8 + 2 * chunks + length (deltas (take taken list))
-  pub short : length list ≤ most
+  pub short : length list ≤ mostEntries
   pub plan : List Chunk
   pub planned : Planned none 8 plan (map symbolOf list)
   pub count : chunks ≡ length plan
   pub takes : taken ≡ takenIn plan
-  pub stands : (i : ℕ) → i < 2 * length plan → getD out (8 + i) 0 ≡ getD (wordBytes (map chunkWord plan)) i 0
+  pub stands : (i : ℕ) → i < 2 * length plan → getD out (8 + i) 0 ≡ getD (chunkBytes (map chunkWord plan)) i 0
 
 -- ---- a block
 
 -- a list and a limit that the tests let through
 pub record Plannable (list : List ℤ) (limit : Option ℕ) : Type 0 where
-  pub short : length list ≤ most
+  pub short : length list ≤ mostEntries
   pub eight : Within limit 8
 
-pub record Writable (time : ℕ) (list : List ℤ) (limit : Option ℕ) (out : List ℕ) : Type 0 where
+pub record BlockStorable (time : ℕ) (list : List ℤ) (limit : Option ℕ) (out : List ℕ) : Type 0 where
   pub fits : time ≤ latest
   pub plannable : Plannable list limit
   pub valid : AllValid list
   pub room : sizeOf limit list ≤ length out
 
-pub record Filled (base time feedback : ℕ) (list : List ℤ) (limit : Option ℕ) (old : List ℕ) (used : Used) (new : List ℕ) : Type 0 where
+pub record BlockStored (base time feedback : ℕ) (list : List ℤ) (limit : Option ℕ) (old : List ℕ) (used : Used) (new : List ℕ) : Type 0 where
   pub size : used .bytes ≡ sizeOf limit list
   pub taken : used .taken ≡ takenOf limit list
   pub block : new ≡ sets old 0 (blockBytes base time feedback limit list)

@@ -2,11 +2,16 @@
 use kinds::RefTime;
 use kinds::Seq;
 use refusal::Refusal;
-use twcc_chunks::Limit;
+use twcc::LARGE_RUNS;
+use twcc::LATEST_TIME;
+use twcc::ONES_END;
+use twcc::RUN_WEIGHT;
+use twcc::RUNS_END;
+use twcc_plan::Limit;
 ghost use mathlib.Core.Path.{_≡_};
 ghost use mathlib.Core.List.{map};
 ghost use mathlib.Core.Bool.{cond};
-ghost use Prim.Native.Nat.{_+_, _*_, _/_, _%_, _≤_, _<_, min};
+ghost use Prim.Native.Nat.{_+_, _*_, _/_, _%_, _≤_, _<_};
 ghost use lib.Dec.{ltb, eqb};
 ghost use lib.IntN.{pos};
 ghost use lib.ListN.{length, getD, take, drop};
@@ -15,16 +20,13 @@ ghost use Rattle.twcc.specs.Time.{latest, timeBits};
 ghost use Rattle.twcc.specs.Words.{Valid, symbolOf, bits16, deltas};
 ghost use Rattle.twcc.specs.Chunks.{Below};
 ghost use Rattle.twcc_plan.specs.Block.{header, sizeOf};
-ghost use Rattle.twcc_chunks.specs.Limits.{limitOf};
+ghost use Rattle.twcc_plan.specs.Limits.{limitOf};
 ghost use Rattle.twcc_write.specs.Limits.{leastOf, limitWithin};
-ghost use Rattle.twcc_write.specs.Stores.{wordAt, DeltaStorable, DeltaStored, QuickStored, Storable, Reached, RunStorable, ChunkStorable, Deliverable, Plannable, Writable, Filled};
+ghost use Rattle.twcc_write.specs.Stores.{wordAt, DeltaStorable, DeltaStored, QuickStored, Storable, Reached, RunStorable, ChunkStorable, Carriable, Plannable, BlockStorable, BlockStored};
 ghost use Rattle.twcc_write.specs.Promise.{Wrote};
 
-// The last reference time that 24 bits hold.
-const LATEST: u32 = 16777215;
-
 // The most entries of a list.
-const MOST: usize = 16384;
+const MOST_ENTRIES: usize = 16384;
 
 // What a block used: its bytes, and the entries that it took.
 pub struct Used {
@@ -63,7 +65,7 @@ fn symbol_in(list: &[i32], at: usize) -> usize
     requires { ⌜ at < length (now list) ⌝ }
     ensures { λ r. ⌜ r ≡ symbolOf (wordAt (now (list .entry)) at) ⌝ }
 {
-    sized(twcc_pick::symbol(list[at]))
+    sized(twcc::symbol(list[at]))
 }
 
 // 1 where the word at a place has a small delta, else 0.
@@ -71,7 +73,7 @@ fn small_in(list: &[i32], at: usize) -> usize
     requires { ⌜ at < length (now list) ⌝ }
     ensures { λ r. ⌜ r ≡ symbolOf (wordAt (now (list .entry)) at) % 2 ⌝ }
 {
-    sized(twcc_pick::small(list[at]))
+    sized(twcc::small(list[at]))
 }
 
 // The first of a word's two bytes, if it has two; else the second.
@@ -239,30 +241,30 @@ fn put_large(rest: &[i32], entries: usize, out: &mut [u8], at: usize)
     }
 }
 
-// The delta bytes of a chunk's entries, as its word says of which kind they are; the place after them.
+// The delta bytes of a chunk's entries, as the chunk says of which kind they are; the place after them.
 fn put_chunk(
     rest: &[i32],
-    word: usize,
+    chunk: usize,
     entries: usize,
     out: &mut [u8],
     at: usize,
     end: usize,
 ) -> usize
-    requires { ⌜ (ChunkStorable (now rest) word entries (now out) at) × (end ≤ length (now out)) ⌝ }
+    requires { ⌜ (ChunkStorable (now rest) chunk entries (now out) at) × (end ≤ length (now out)) ⌝ }
     ensures { λ r. ⌜ Reached (now (rest .entry)) entries (now (out .entry)) at end r (now (out .exit)) ⌝ }
 {
-    if word < 8192 {
+    if chunk < RUN_WEIGHT {
         return at;
     }
-    if word < 16384 {
+    if chunk < LARGE_RUNS {
         put_small(rest, entries, out, at);
         return at + entries;
     }
-    if word < 32768 {
+    if chunk < RUNS_END {
         put_large(rest, entries, out, at);
         return at + 2 * entries;
     }
-    if word < 49152 {
+    if chunk < ONES_END {
         return put_ones(rest, entries, out, at, end);
     }
     put_twos(rest, entries, out, at, end)
@@ -272,44 +274,31 @@ fn put_chunk(
 fn put_from(
     list: &[i32],
     from: usize,
-    word: usize,
+    chunk: usize,
     entries: usize,
     out: &mut [u8],
     at: usize,
     end: usize,
 ) -> usize
-    requires { ⌜ (from ≤ length (now list)) × (ChunkStorable (drop from (now list)) word entries (now out) at) × (end ≤ length (now out)) ⌝ }
+    requires { ⌜ (from ≤ length (now list)) × (ChunkStorable (drop from (now list)) chunk entries (now out) at) × (end ≤ length (now out)) ⌝ }
     ensures { λ r. ⌜ Reached (drop from (now (list .entry))) entries (now (out .entry)) at end r (now (out .exit)) ⌝ }
 {
     let rest = &list[from..];
-    put_chunk(rest, word, entries, out, at, end)
+    put_chunk(rest, chunk, entries, out, at, end)
 }
 
-fn lesser(a: usize, b: usize) -> usize
-    ensures { λ r. ⌜ r ≡ min a b ⌝ }
-{
-    if a < b { a } else { b }
-}
-
-fn wide(x: u8) -> usize
-    ensures { λ r. ⌜ (r ≡ x) × (r < 256) ⌝ }
-{
-    x as usize
-}
-
-// The delta bytes of the entries taken, chunk by chunk, up to a place `end`: the words of the chunks stand behind the header's
-// place.
+// The delta bytes of the entries taken, chunk by chunk, up to a place `end`: the chunks stand behind the header's place.
 fn put_deltas(list: &[i32], chunks: usize, taken: usize, out: &mut [u8], end: usize)
-    requires { ⌜ Deliverable (now list) chunks taken (now out) end ⌝ }
+    requires { ⌜ Carriable (now list) chunks taken (now out) end ⌝ }
     ensures { λ _. ⌜ now (out .exit) ≡ sets (now (out .entry)) (8 + 2 * chunks) (deltas (take taken (now (list .entry)))) ⌝ }
 {
     let mut p = 8 + 2 * chunks;
     let mut n: usize = 0;
     let mut c: usize = 0;
     while c < chunks {
-        let word = 256 * wide(out[8 + 2 * c]) + wide(out[9 + 2 * c]);
-        let entries = lesser(twcc_walk::size(word), taken - n);
-        p = put_from(list, n, word, entries, out, p, end);
+        let chunk = 256 * octets::wide(out[8 + 2 * c]) + octets::wide(out[9 + 2 * c]);
+        let entries = octets::lesser(twcc::size(chunk), taken - n);
+        p = put_from(list, n, chunk, entries, out, p, end);
         n = n + entries;
         c = c + 1;
     }
@@ -348,10 +337,10 @@ fn put_block(
     limit: Limit,
     out: &mut [u8],
 ) -> Used
-    requires { ⌜ Writable (time .0) (now list) (limitOf limit) (now out) ⌝ }
-    ensures { λ r. ⌜ Filled (base .0) (time .0) feedback (now (list .entry)) (limitOf limit) (now (out .entry)) r (now (out .exit)) ⌝ }
+    requires { ⌜ BlockStorable (time .0) (now list) (limitOf limit) (now out) ⌝ }
+    ensures { λ r. ⌜ BlockStored (base .0) (time .0) feedback (now (list .entry)) (limitOf limit) (now (out .entry)) r (now (out .exit)) ⌝ }
 {
-    let p = twcc_chunks::plan_chunks(list, limit, out);
+    let p = twcc_plan::plan_chunks(list, limit, out);
     let taken = p.taken;
     let used = p.used;
     put_deltas(list, p.chunks, taken, out, used);
@@ -367,7 +356,7 @@ fn least(limit: Limit) -> usize
 {
     match limit {
         Limit::Absent => 8,
-        Limit::Bytes(most) => most,
+        Limit::Bytes(bytes) => bytes,
     }
 }
 
@@ -377,12 +366,12 @@ fn limited(limit: Limit, room: usize) -> bool
 {
     match limit {
         Limit::Absent => false,
-        Limit::Bytes(most) => most <= room,
+        Limit::Bytes(bytes) => bytes <= room,
     }
 }
 
 // The bytes that a block needs where the room lacks, 0 where it suffices. Where neither the limit nor the list's length
-// settles it, a plan does, with a buffer that is too short for its words.
+// settles it, a plan does, with a buffer that is too short for its chunks.
 fn lacking(list: &[i32], limit: Limit, room: usize) -> usize
     requires { ⌜ Plannable (now list) (limitOf limit) ⌝ }
     ensures { λ r. ⌜ r ≡ cond (ltb room (sizeOf (limitOf limit) (now (list .entry)))) (sizeOf (limitOf limit) (now (list .entry))) 0 ⌝ }
@@ -394,7 +383,7 @@ fn lacking(list: &[i32], limit: Limit, room: usize) -> usize
         return 0;
     }
     let mut nowhere = [0u8; 8];
-    let p = twcc_chunks::plan_chunks(list, limit, &mut nowhere);
+    let p = twcc_plan::plan_chunks(list, limit, &mut nowhere);
     let needed = p.bytes;
     if room < needed {
         return needed;
@@ -415,13 +404,13 @@ pub fn write(
     ensures { λ r. ⌜ Wrote (base .0) (time .0) feedback (now (list .entry)) (limitOf limit) (now (out .entry)) r (now (out .exit)) ⌝ }
 {
     let count = time.0;
-    if LATEST < count {
+    if LATEST_TIME < count {
         return Written::No(Refusal::ReferenceTimeTooLarge(count));
     }
-    if MOST < list.len() {
+    if MOST_ENTRIES < list.len() {
         return Written::No(Refusal::ListTooLong(list.len()));
     }
-    let bad = twcc_pick::first_bad(list);
+    let bad = twcc_plan::first_bad(list);
     if bad < list.len() {
         return Written::No(Refusal::StatusOutOfRange(bad));
     }

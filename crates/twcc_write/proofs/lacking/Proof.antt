@@ -4,8 +4,8 @@ use mathlib.Core.Path.{sym, _∙_}
 use native.Mathlib.Omega.{arith}
 use denote.Ref.{now}
 use Rattle.twcc_plan.specs.Block.{sizeOf}
-use Rattle.twcc_plan.specs.BlockLaws.{size-small, size-within}
-use Rattle.twcc_chunks.specs.Limits.{limitOf}
+use Rattle.twcc_plan.proofs.BlockLaws.{size-small, size-within}
+use Rattle.twcc_plan.specs.Limits.{limitOf}
 use Rattle.twcc_write.proofs.Joining.{plan-size, limit-enough, enough, lacks}
 use Rattle.twcc_write.proofs.lacking.Statement.{statement}
 use Rattle.twcc_write.proofs.lacking.Tie as tie

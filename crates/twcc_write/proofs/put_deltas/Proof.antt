@@ -5,6 +5,7 @@ use mathlib.Core.Path.{_≡_, ap, _∙_}
 use native.Mathlib.Omega.{arith}
 use denote.Ref.{now}
 use lib.ListN.{length, getD}
+use Rattle.twcc_plan.specs.Block.{mostEntries}
 use Rattle.twcc_write.proofs.Carrying.{Carrying, carrying-start, Carried, carried, carrying-over}
 use Rattle.twcc_write.proofs.put_deltas.Statement.{statement}
 use Rattle.twcc_write.proofs.put_deltas.Tie as tie
@@ -15,7 +16,7 @@ Inv-loop list chunks taken out₀ end p₀ n₀ c₀ out p n c = Carrying list c
 abbrev μ-loop : tie.MeasureT-loop
 μ-loop list chunks taken out₀ end p₀ n₀ c₀ out p n c = chunks - c
 
-small : (s : tie.Start Inv-loop μ-loop) → (s .args .chunks ≤ 4611686018427387904) × (s .args .taken ≤ 16384) × (8 + 2 * s .args .chunks ≤ length (now (s .args .out))) × (s .args .end ≤ length (now (s .args .out)))
+small : (s : tie.Start Inv-loop μ-loop) → (s .args .chunks ≤ 4611686018427387904) × (s .args .taken ≤ mostEntries) × (8 + 2 * s .args .chunks ≤ length (now (s .args .out))) × (s .args .end ≤ length (now (s .args .out)))
 small s = omega (arith, s .pre .storable .room, s .pre .storable .inside, s .pre .short, s .pre .ends)
 
 -- what the turn's chunk tells
@@ -50,8 +51,8 @@ slice-read-wide c = omega (arith, small (c .before .before .before .before), c .
 wide-requires : tie.Need-wide-requires Inv-loop μ-loop
 wide-requires c κs = search needs
 
-mul-word : tie.Need-mul-word Inv-loop μ-loop
-mul-word c = omega (arith, c .wide .ensures .1)
+mul-chunk : tie.Need-mul-chunk Inv-loop μ-loop
+mul-chunk c = omega (arith, c .wide .ensures .1)
 
 mul-wide-2 : tie.Need-mul-wide-2 Inv-loop μ-loop
 mul-wide-2 c = omega (arith, small (c .before .before .before .before .before))
@@ -65,8 +66,8 @@ slice-read-wide-2 c = omega (arith, small (c .before .before .before .before .be
 wide-requires-2 : tie.Need-wide-requires-2 Inv-loop μ-loop
 wide-requires-2 c κs = search needs
 
-add-word : tie.Need-add-word Inv-loop μ-loop
-add-word c = omega (arith, c .wide2 .ensures .1, c .before .before .wide .ensures .1)
+add-chunk : tie.Need-add-chunk Inv-loop μ-loop
+add-chunk c = omega (arith, c .wide2 .ensures .1, c .before .before .wide .ensures .1)
 
 size-requires : tie.Need-size-requires Inv-loop μ-loop
 size-requires c κs = search needs
@@ -111,12 +112,12 @@ put-deltas-spec =
     add-wide
     slice-read-wide
     wide-requires
-    mul-word
+    mul-chunk
     mul-wide-2
     add-wide-2
     slice-read-wide-2
     wide-requires-2
-    add-word
+    add-chunk
     size-requires
     sub-lesser
     lesser-requires

@@ -1,7 +1,7 @@
 -- The part is what remains of the list.
 use borrow.Author.Needs.{needs}
 use denote.Ref.{now}
-use Rattle.twcc_chunks.proofs.Stepping.{tail-is}
+use Rattle.twcc_plan.proofs.Stepping.{tail-is}
 use Rattle.twcc_write.proofs.put_from.Statement.{statement}
 use Rattle.twcc_write.proofs.put_from.Tie as tie
 

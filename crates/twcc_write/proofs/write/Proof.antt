@@ -5,13 +5,13 @@ use borrow.Author.Tests.{lt-ltb, le-ltb}
 use denote.Ref.{now}
 use lib.ListN.{length}
 use Rattle.twcc_plan.specs.Block.{firstBad, sizeOf}
-use Rattle.twcc_plan.specs.BlockLaws.{none-bad}
-use Rattle.twcc_chunks.specs.Limits.{limitOf}
-use Rattle.twcc_write.specs.Limits.{leastOf, eight-within}
+use Rattle.twcc_plan.proofs.BlockLaws.{none-bad}
+use Rattle.twcc_plan.specs.Limits.{limitOf}
+use Rattle.twcc_write.specs.Limits.{leastOf}
+use Rattle.twcc_write.proofs.Answers.{eight-within, refuses, gives}
 use Rattle.twcc_write.specs.Stores.{Plannable}
 use Rattle.twcc_write.specs.Promise.{written}
 use Rattle.twcc_write.proofs.Joining.{lacked, suffices}
-use Rattle.twcc_write.proofs.Answers.{refuses, gives}
 use borrow.Author.Needs.{needs}
 use Rattle.twcc_write.proofs.write.Statement.{statement}
 use Rattle.twcc_write.proofs.write.Tie as tie

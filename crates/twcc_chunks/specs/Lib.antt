@@ -1,4 +1,0 @@
-pub mod Limits
-pub mod Steps
-pub mod Plans
-pub mod Unique

@@ -1,0 +1,5 @@
+pub mod Numbering
+pub mod Cutting
+pub mod Answers
+pub mod Calling
+pub mod Unique

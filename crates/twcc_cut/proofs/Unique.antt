@@ -1,0 +1,7 @@
+-- No slack: two answers that meet a promise are equal.
+use Prim.Native.Nat.{ℕ, _+_, _%_}
+use mathlib.Core.Path.{_≡_, sym, _∙_}
+use Rattle.kinds.specs.declared.Seq.{Seq}
+
+pub next-base-unique : (base : Seq) (taken : ℕ) (a b : Seq) → a .0 ≡ (base .0 + taken) % 65536 → b .0 ≡ (base .0 + taken) % 65536 → a ≡ b
+next-base-unique base taken a b one two = λ i. record { 0 = (one ∙ sym two) i }

@@ -1,3 +1,0 @@
-pub mod Filling
-pub mod Runs
-pub mod Vectors

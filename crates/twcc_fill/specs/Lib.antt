@@ -1,3 +1,0 @@
-pub mod Filled
-pub mod Promise
-pub mod Unique

@@ -1,3 +1,0 @@
-pub mod Counting
-pub mod Picked
-pub mod Unique

@@ -1,0 +1,12 @@
+pub mod Fronts
+pub mod Symbols
+pub mod PlanLaws
+pub mod BlockLaws
+pub mod Packing
+pub mod Choosing
+pub mod Sevens
+pub mod Fourteen
+pub mod Ranging
+pub mod Stepping
+pub mod Planning
+pub mod Unique
