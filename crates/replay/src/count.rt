@@ -1,5 +1,6 @@
 // What is counted: of the call at hand, and of all.
 use crate::judge::AGREES;
+use crate::judge::UNREADABLE;
 
 // Cases, those that disagree; lines that are wrong on purpose, those that were found out.
 pub struct Counts {
@@ -42,8 +43,9 @@ fn more(n: u64, so: bool) -> u64 {
 }
 
 impl Counts {
+    // A line that can't be read is a case that disagrees, whatever its mark.
     fn entered(self, mark: u8, verdict: u8) -> Counts {
-        let fair = mark == AGREES;
+        let fair = (mark == AGREES) | (verdict == UNREADABLE);
         let differs = verdict != AGREES;
         Counts {
             cases: more(self.cases, fair),

@@ -27,9 +27,12 @@ fn name_at(text: &[u8], at: usize) -> &[u8] {
     part(text, at, behind(at, MARK))
 }
 
-// The book at the call whose line starts at a place; a call that is over gets its row.
-fn turn(text: &[u8], at: usize, book: Book) -> Book {
+// The book at the call whose line starts at a place, if the line can be read; a call that is over gets its row.
+fn turn(text: &[u8], at: usize, verdict: u8, book: Book) -> Book {
     let name = name_at(text, book.named);
+    if verdict == judge::UNREADABLE {
+        return book;
+    }
     if opens_with(name_at(text, at), name) {
         return book;
     }
@@ -53,10 +56,10 @@ fn enter(
     if byte_at(s, 0) == b'#' {
         return book;
     }
-    let open = turn(text, at, book);
     let name = part(s, 0, MARK);
     let mark = byte_at(s, MARK);
     let verdict = judge::judge(name, part(s, HEX, s.len()), case, bytes, shorts, words);
+    let open = turn(text, at, verdict, book);
     report::say_wrong(line, name, mark, verdict);
     open.entered(mark, verdict)
 }
