@@ -7,16 +7,16 @@ use twcc::NOT_RECEIVED;
 use twcc::RESERVED;
 use twcc::TRUNCATED;
 ghost use mathlib.Core.Path.{_≡_};
-ghost use Prim.Native.Nat.{_+_, _*_, _<_};
+ghost use Prim.Native.Nat.{_+_, _*_, _≤_, _<_};
 ghost use lib.ListN.{drop};
 ghost use Rattle.twcc.specs.Words.{signed16};
-ghost use Rattle.twcc.specs.Time.{timeOf};
+ghost use Rattle.twcc.specs.Time.{latest, timeOf};
 ghost use Rattle.twcc_cursors.specs.Cursors.{saidHeaded, headed, countsOf, nextChunk, fullChunk, nextDelta};
 ghost use Rattle.twcc_cursors.specs.Packets.{saidOpened, opened, packetAt, nextPacket};
 
 // The time of 24 bits.
 fn time_of(bits: usize) -> RefTime
-    requires { ⌜ bits < 16777216 ⌝ }
+    requires { ⌜ bits ≤ latest ⌝ }
     ensures { λ r. ⌜ r .0 ≡ timeOf bits ⌝ }
 {
     RefTime(bits as u32)

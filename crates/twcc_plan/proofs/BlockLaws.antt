@@ -129,7 +129,7 @@ module _ (limit : Option ℕ) (list : List ℤ) (eight : Within limit 8) where
       let width : length (deltas (take n list)) ≡ widthOf (take n (map symbolOf list)) = rw take-symbols (length-deltas (take n list)) in
       omega (arith, planned, width, length-append (chunkBytes (map chunkWord cs)) (deltas (take n list)), length-chunks (map chunkWord cs), length-map cs chunkWord)
 
-  -- at mostEntries four bytes for each entry of the list, behind the header
+  -- at most four bytes for each entry of the list, behind the header
   pub size-small : sizeOf limit list ≤ 8 + 4 * length list
   unfolding takenOf
   size-small = omega (arith, used-is, taken-fits, planned-small limit 8 (chunksOf limit list) (map symbolOf list) (symbols-lt list) block-planned)

@@ -31,7 +31,7 @@ left list limit used taken = plan limit 0 used taken (drop taken (map symbolOf l
 abbrev pub bytesIn : List Chunk → List ℕ
 bytesIn cs = chunkBytes (map chunkWord cs)
 
-pub record Looping (list : List ℤ) (limit : Option ℕ) (out₀ out : List ℕ) (chunks used taken : ℕ) : Type 0 where
+pub record Planning (list : List ℤ) (limit : Option ℕ) (out₀ out : List ℕ) (chunks used taken : ℕ) : Type 0 where
   pub inside : taken ≤ length list
   pub few : chunks ≤ taken
   pub small : used ≤ 8 + 4 * taken
@@ -41,9 +41,9 @@ pub record Looping (list : List ℤ) (limit : Option ℕ) (out₀ out : List ℕ
   pub makes : length (chunksOf limit list) ≡ chunks + length (left list limit used taken)
   pub stores : sets out (8 + 2 * chunks) (bytesIn (left list limit used taken)) ≡ sets out₀ 8 (bytesIn (chunksOf limit list))
 
-pub looping-start : (list : List ℤ) (limit : Option ℕ) (out : List ℕ) → Looping list limit out out 0 8 0
+pub planning-start : (list : List ℤ) (limit : Option ℕ) (out : List ℕ) → Planning list limit out out 0 8 0
 unfolding takenOf chunksOf
-looping-start list limit out =
+planning-start list limit out =
     record {
       inside = omega arith;
       few = omega arith;
@@ -66,7 +66,7 @@ unfolding stepOf
 step-none none e = refl
 step-none (some c) e = absurd (let z : _≡_ {A = ℕ} 0 1 = cc in omega arith)
 
-module _ {list : List ℤ} {limit : Option ℕ} {out₀ out : List ℕ} {chunks used taken : ℕ} (looping : Looping list limit out₀ out chunks used taken) where
+module _ {list : List ℤ} {limit : Option ℕ} {out₀ out : List ℕ} {chunks used taken : ℕ} (planning : Planning list limit out₀ out chunks used taken) where
   abbrev here : List ℕ
   here = drop taken (map symbolOf list)
 
@@ -77,7 +77,7 @@ module _ {list : List ℤ} {limit : Option ℕ} {out₀ out : List ℕ} {chunks 
     pub slim : p .width ≤ 2 * p .count
     pub bits : p .chunk < 65536
     pub further : (new : List ℕ) → new ≡ sets out (8 + 2 * chunks) (beBytes 2 (p .chunk))
-        → Looping list limit out₀ new (chunks + 1) (used + 2 + p .width) (taken + p .count)
+        → Planning list limit out₀ new (chunks + 1) (used + 2 + p .width) (taken + p .count)
 
   turned-chunk : (c : Chunk) → taken < length list → next limit used taken here ≡ some c → Turned (picked c)
   unfolding takenIn usedBy picked chunkBytes
@@ -100,16 +100,16 @@ module _ {list : List ℤ} {limit : Option ℕ} {out₀ out : List ℕ} {chunks 
         bits = chunk-lt here c below (law .0);
         further = λ new stored. record {
           inside = omega arith;
-          few = omega (arith, looping .few);
-          small = omega (arith, looping .small);
-          same = ap length stored ∙ length-sets out (8 + 2 * chunks) (beBytes 2 (chunkWord c)) ∙ looping .same;
-          counts = looping .counts ∙ rw goes (omega arith);
-          spends = looping .spends ∙ rw goes;
-          makes = looping .makes ∙ rw goes (omega arith);
+          few = omega (arith, planning .few);
+          small = omega (arith, planning .small);
+          same = ap length stored ∙ length-sets out (8 + 2 * chunks) (beBytes 2 (chunkWord c)) ∙ planning .same;
+          counts = planning .counts ∙ rw goes (omega arith);
+          spends = planning .spends ∙ rw goes;
+          makes = planning .makes ∙ rw goes (omega arith);
           stores =
               rw (stored, place)
               (sets-append out (8 + 2 * chunks) (beBytes 2 (chunkWord c)) (bytesIn later)
-              ∙ sym (ap (λ (cs : List Chunk). sets out (8 + 2 * chunks) (bytesIn cs)) goes) ∙ looping .stores);
+              ∙ sym (ap (λ (cs : List Chunk). sets out (8 + 2 * chunks) (bytesIn cs)) goes) ∙ planning .stores);
         };
       }
 
@@ -123,14 +123,14 @@ module _ {list : List ℤ} {limit : Option ℕ} {out₀ out : List ℕ} {chunks 
   unfolding takenIn usedBy chunkBytes
   over bytes sized gone =
       record {
-        taken = sym (looping .counts ∙ rw gone (omega arith));
-        used = sym (looping .spends ∙ rw gone);
+        taken = sym (planning .counts ∙ rw gone (omega arith));
+        used = sym (planning .spends ∙ rw gone);
         bytes = sized;
-        chunks = sym (looping .makes ∙ rw gone (omega arith));
-        stored = sym (ap (λ (cs : List Chunk). sets out (8 + 2 * chunks) (bytesIn cs)) gone) ∙ looping .stores;
-        inside = looping .inside;
-        few = looping .few;
-        small = looping .small;
+        chunks = sym (planning .makes ∙ rw gone (omega arith));
+        stored = sym (ap (λ (cs : List Chunk). sets out (8 + 2 * chunks) (bytesIn cs)) gone) ∙ planning .stores;
+        inside = planning .inside;
+        few = planning .few;
+        small = planning .small;
       }
 
   pub stopped : (step : Step) → step ≡ stepOf (next limit used taken here) → step ≡ Stop → (bytes : ℕ) → bytes ≡ upFour used

@@ -16,7 +16,7 @@ use Rattle.twcc_plan.specs.Front.{front}
 use Rattle.twcc_plan.proofs.Fronts.{front-yes, front-no, front-skip, front-mono, front-stops}
 use Rattle.twcc_plan.specs.Choice.{runOf, oneBit, onesOf, isRun, isOne, chunkFor}
 use Rattle.twcc_plan.proofs.PlanLaws.{front-run}
-use Rattle.twcc_plan.specs.Picked.{picked, Places, vectorOf, twosIn, Sevens, twoOf, Alike, Settles}
+use Rattle.twcc_plan.specs.Picked.{picked, Places, vectorOf, twosIn, Gathered, twoOf, Alike, Settles}
 use Rattle.twcc_plan.specs.declared.pick.Seven.{Seven}
 use Rattle.twcc_plan.proofs.Packing.{Packing, packing-start, packing-fits, packing-turn, packing-over}
 use Rattle.twcc_plan.proofs.Choosing.{pack-take, picks-two}
@@ -58,7 +58,7 @@ module _ {ss : List ℕ} {two width twos n : ℕ} (g : Gathering ss two width tw
         few = omega (arith, g .few);
       }
 
-  pub gathering-over : 7 ≤ n → Sevens ss (record { two = two; width = width; twos = twos })
+  pub gathering-over : 7 ≤ n → Gathered ss (record { two = two; width = width; twos = twos })
   unfolding twosIn
   gathering-over over =
       let none : 7 - n ≡ 0 = omega arith in
@@ -211,7 +211,7 @@ none-two (suc n) (s ∷ ss) long none =
     (λ e. rw e (omega (arith, none-two n ss (omega arith) (omega arith))))
     (λ e. absurd (omega (arith, ltb-false s 2 e)))
 
-module _ (ss : List ℕ) (long : 14 ≤ length ss) (a : Seven) (first : Sevens ss a) (no : isRun (runOf ss) (onesOf ss) ≡ false) where
+module _ (ss : List ℕ) (long : 14 ≤ length ss) (a : Seven) (first : Gathered ss a) (no : isRun (runOf ss) (onesOf ss) ≡ false) where
   two-is : onesOf ss < 14 → twoOf a ≡ picked (chunkFor ss)
   unfolding vectorOf
   two-is few =
@@ -227,7 +227,7 @@ module _ (ss : List ℕ) (long : 14 ≤ length ss) (a : Seven) (first : Sevens s
   two-early some = let few = some-two 7 ss (rw (first .twos) at some) in two-is (omega arith)
 
   -- a 2 among the next seven
-  pub two-late : a .twos ≡ 0 → (b : Seven) → Sevens (drop 7 ss) b → zero < b .twos → twoOf a ≡ picked (chunkFor ss)
+  pub two-late : a .twos ≡ 0 → (b : Seven) → Gathered (drop 7 ss) b → zero < b .twos → twoOf a ≡ picked (chunkFor ss)
   unfolding onesOf
   two-late none b second some =
       let ahead = front-skip oneBit 7 ss (none-two 7 ss (omega arith) (sym (first .twos) ∙ none)) in

@@ -32,7 +32,7 @@ twosIn [] = 0
 twosIn (s ∷ ss) = s / 2 + twosIn ss
 
 -- the first seven symbols
-pub record Sevens (ss : List ℕ) (r : Seven) : Type 0 where
+pub record Gathered (ss : List ℕ) (r : Seven) : Type 0 where
   pub two : r .two ≡ pack 4 7 ss
   pub width : r .width ≡ widthOf (take 7 ss)
   pub twos : r .twos ≡ twosIn (take 7 ss)

@@ -13,7 +13,7 @@ ghost use Rattle.twcc.specs.Words.{symbolOf};
 ghost use Rattle.twcc.specs.Chunks.{Below, longestRun, pack};
 ghost use Rattle.twcc_plan.specs.Front.{front, FrontCount};
 ghost use Rattle.twcc_plan.specs.Choice.{runOf, onesOf, isRun, isOne, chunkFor};
-ghost use Rattle.twcc_plan.specs.Picked.{picked, Places, vectorOf, runPicked, weightOf, Sevens, twoOf, Alike, Settles};
+ghost use Rattle.twcc_plan.specs.Picked.{picked, Places, vectorOf, runPicked, weightOf, Gathered, twoOf, Alike, Settles};
 
 // A chunk as it is written, the entries that it takes, and their delta bytes.
 pub(crate) struct Picked {
@@ -302,7 +302,7 @@ pub(crate) struct Seven {
 
 fn gather(rest: &[i32], at: usize) -> Seven
     requires { ⌜ at + 7 ≤ length (now rest) ⌝ }
-    ensures { λ r. ⌜ Sevens (drop at (map symbolOf (now (rest .entry)))) r ⌝ }
+    ensures { λ r. ⌜ Gathered (drop at (map symbolOf (now (rest .entry)))) r ⌝ }
 {
     let mut two: u32 = 0;
     let mut width: u32 = 0;

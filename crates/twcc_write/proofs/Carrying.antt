@@ -16,7 +16,7 @@ use Rattle.twcc_plan.specs.Plan.{takenIn}
 use Rattle.twcc_plan.specs.Planned.{Good, Planned}
 use Rattle.twcc_plan.proofs.PlanLaws.{good-taken, good-agrees, front-run, below-take, below-drop, planned-reads}
 use Rattle.twcc_plan.proofs.BlockLaws.{valid-drop}
-use Rattle.twcc_write.specs.Stores.{Stored, Reached, ChunkStorable, Carriable}
+use Rattle.twcc_write.specs.Stores.{Stored, Spread, ChunkStorable, Carriable}
 use Rattle.twcc_plan.proofs.Stepping.{drop-symbols}
 use Rattle.twcc_write.proofs.Bytes.{deltas-split}
 
@@ -54,7 +54,7 @@ pub record Carried (list : List ℤ) (chunks taken : ℕ) (out₀ : List ℕ) (e
   pub inside : n ≤ length list
   pub few : n + entries ≤ taken
   pub storable : ChunkStorable (drop n list) chunk entries out p
-  pub further : (p′ : ℕ) (new : List ℕ) → length new ≡ length out → Reached (drop n list) entries out p end p′ new
+  pub further : (p′ : ℕ) (new : List ℕ) → length new ≡ length out → Spread (drop n list) entries out p end p′ new
       → Carrying list chunks taken out₀ new p′ (n + entries) (c + 1)
 
 sum-ends : (p p′ a b whole total end : ℕ) → whole ≡ a + b → p + whole ≡ total → p′ ≡ p + a → end ≡ total → p′ + b ≡ end

@@ -1,5 +1,5 @@
 pub mod Words
-pub mod Delivering
+pub mod Storing
 pub mod Bytes
 pub mod Spreading
 pub mod Running

@@ -12,9 +12,9 @@ use Rattle.twcc.proofs.Written.{length-deltas}
 use Rattle.twcc_plan.proofs.PlanLaws.{width-run}
 use Rattle.twcc_plan.proofs.BlockLaws.{take-symbols}
 use Rattle.twcc_plan.proofs.Symbols.{symbol-there}
-use Rattle.twcc_write.specs.Stores.{wordAt, DeltaStored, Stored, Reached, RunStorable, ChunkStorable}
-use Rattle.twcc_write.proofs.Spreading.{exact-reached}
-use Rattle.twcc_write.proofs.Delivering.{Delivering, delivering-turn, small-stored, large-stored}
+use Rattle.twcc_write.specs.Stores.{wordAt, DeltaStored, Stored, Spread, RunStorable, ChunkStorable}
+use Rattle.twcc_write.proofs.Spreading.{exact-spread}
+use Rattle.twcc_write.proofs.Storing.{Storing, storing-turn, small-stored, large-stored}
 
 module _ {list : List ℤ} {symbol entries : ℕ} {out : List ℕ} {at : ℕ} (run : RunStorable list symbol entries out at) where
   pub run-symbol : (n : ℕ) → n < entries → symbolOf (wordAt list n) ≡ symbol
@@ -34,16 +34,16 @@ moved {to = to} {to′ = to′} place stored = record { next = sym place ∙ sto
 
 -- one more of a run of small deltas, and of large ones
 module _ {list : List ℤ} {entries : ℕ} {out₀ out : List ℕ} {at n bits : ℕ} (more : n < entries) (low : bits ≡ bits16 (wordAt list n)) where
-  pub small-turn : RunStorable list 1 entries out₀ at → Delivering list entries out₀ at out (at + n) n → Delivering list entries out₀ at (set out (at + n) bits) (at + (n + 1)) (n + 1)
+  pub small-turn : RunStorable list 1 entries out₀ at → Storing list entries out₀ at out (at + n) n → Storing list entries out₀ at (set out (at + n) bits) (at + (n + 1)) (n + 1)
   small-turn run d =
-      delivering-turn d (run .storable) more _ _ (length-set out (at + n) bits)
+      storing-turn d (run .storable) more _ _ (length-set out (at + n) bits)
       (moved (omega arith) (small-stored list n out (at + n) _ (sym (run-symbol run n more)) bits low refl))
 
-  pub large-turn : RunStorable list 2 entries out₀ at → Delivering list entries out₀ at out (at + 2 * n) n
-      → Delivering list entries out₀ at (set (set out (at + 2 * n) (bits / 256)) (at + 2 * n + 1) (bits % 256)) (at + 2 * (n + 1)) (n + 1)
+  pub large-turn : RunStorable list 2 entries out₀ at → Storing list entries out₀ at out (at + 2 * n) n
+      → Storing list entries out₀ at (set (set out (at + 2 * n) (bits / 256)) (at + 2 * n + 1) (bits % 256)) (at + 2 * (n + 1)) (n + 1)
   large-turn run d =
       let p = at + 2 * n in
-      delivering-turn d (run .storable) more _ _ (length-set (set out p (bits / 256)) (p + 1) (bits % 256) ∙ length-set out p (bits / 256))
+      storing-turn d (run .storable) more _ _ (length-set (set out p (bits / 256)) (p + 1) (bits % 256) ∙ length-set out p (bits / 256))
       (moved (omega arith) (large-stored list n out p _ (sym (run-symbol run n more)) bits low (λ e. omega arith) (λ e. omega arith)))
 
 -- ---- a chunk's deltas, by what it was tested for
@@ -57,17 +57,17 @@ module _ {list : List ℤ} {chunk entries : ℕ} {out : List ℕ} {at : ℕ} (re
   chunk-run symbol is-run is =
       record { storable = ready .storable; same = ready .run is-run .1 ∙ ap (λ (s : ℕ). replicate entries s) is }
 
-  pub lost-stored : (end : ℕ) → chunk < runWeight → Reached list entries out at end at out
+  pub lost-stored : (end : ℕ) → chunk < runWeight → Spread list entries out at end at out
   lost-stored end lost =
       let none = run-width (chunk-run 0 (omega arith) (omega arith)) (omega arith) in
       let bytes = none-left (deltas (take entries list)) (omega (arith, none)) in
-      exact-reached (omega (arith, none)) (rw bytes)
+      exact-spread (omega (arith, none)) (rw bytes)
 
-  pub small-reached : (end : ℕ) {new : List ℕ} → runWeight ≤ chunk → chunk < 2 * runWeight → Stored list entries out at new → Reached list entries out at end (at + entries) new
-  small-reached end low high = exact-reached (omega (arith, run-width (chunk-run 1 (omega arith) (omega arith)) (omega arith)))
+  pub small-spread : (end : ℕ) {new : List ℕ} → runWeight ≤ chunk → chunk < 2 * runWeight → Stored list entries out at new → Spread list entries out at end (at + entries) new
+  small-spread end low high = exact-spread (omega (arith, run-width (chunk-run 1 (omega arith) (omega arith)) (omega arith)))
 
   pub large-symbol : 2 * runWeight ≤ chunk → chunk < runsEnd → chunk / runWeight ≡ 2
   large-symbol low high = omega (arith, ready .run high .0)
 
-  pub large-reached : (end : ℕ) {new : List ℕ} → 2 * runWeight ≤ chunk → chunk < runsEnd → Stored list entries out at new → Reached list entries out at end (at + 2 * entries) new
-  large-reached end low high = exact-reached (omega (arith, run-width (chunk-run 2 high (large-symbol low high)) (omega arith)))
+  pub large-spread : (end : ℕ) {new : List ℕ} → 2 * runWeight ≤ chunk → chunk < runsEnd → Stored list entries out at new → Spread list entries out at end (at + 2 * entries) new
+  large-spread end low high = exact-spread (omega (arith, run-width (chunk-run 2 high (large-symbol low high)) (omega arith)))

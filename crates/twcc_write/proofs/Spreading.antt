@@ -20,7 +20,7 @@ use Rattle.twcc_plan.proofs.PlanLaws.{below-take, width-le}
 use Rattle.twcc_plan.proofs.BlockLaws.{take-symbols}
 use Rattle.twcc_plan.proofs.Symbols.{symbol-there}
 use Rattle.twcc_plan.proofs.Fourteen.{below-at}
-use Rattle.twcc_write.specs.Stores.{wordAt, DeltaStorable, DeltaStored, QuickStored, Storable, Stored, Reached}
+use Rattle.twcc_write.specs.Stores.{wordAt, DeltaStorable, DeltaStored, QuickStored, Storable, Stored, Spread}
 use Rattle.twcc_write.proofs.Words.{valid-at, small-bits}
 use Rattle.twcc_write.proofs.Bytes.{getD-before, deltas-append, deltas-few}
 
@@ -36,9 +36,9 @@ exact-quick {list} {n} {old} {at} stored =
       further = λ xs ends. rw (stored .bytes, stored .next, size) (sets-append old at bytes xs);
     }
 
-pub exact-reached : {list : List ℤ} {entries : ℕ} {old : List ℕ} {at end to : ℕ} {new : List ℕ} → to ≡ at + length (deltas (take entries list))
-    → Stored list entries old at new → Reached list entries old at end to new
-exact-reached {list} {entries} {old} {at} next stored =
+pub exact-spread : {list : List ℤ} {entries : ℕ} {old : List ℕ} {at end to : ℕ} {new : List ℕ} → to ≡ at + length (deltas (take entries list))
+    → Stored list entries old at new → Spread list entries old at end to new
+exact-spread {list} {entries} {old} {at} next stored =
     let bytes = deltas (take entries list) in
     record {
       next = next;
@@ -121,16 +121,16 @@ module _ (list : List ℤ) (n : ℕ) (old : List ℕ) (at end symbol bits : ℕ)
 pub record Spreading (list : List ℤ) (entries : ℕ) (out₀ : List ℕ) (at end : ℕ) (out : List ℕ) (p n : ℕ) : Type 0 where
   pub within : n ≤ entries
   pub same : length out ≡ length out₀
-  pub reached : Reached list n out₀ at end p out
+  pub spread : Spread list n out₀ at end p out
 
 pub spreading-start : (list : List ℤ) (entries : ℕ) (out : List ℕ) (at end : ℕ) → Spreading list entries out at end out at 0
 unfolding deltas
 spreading-start list entries out at end =
-    record { within = omega arith; same = refl; reached = record { next = omega arith; kept = λ i before. refl; further = λ xs ends. refl } }
+    record { within = omega arith; same = refl; spread = record { next = omega arith; kept = λ i before. refl; further = λ xs ends. refl } }
 
 module _ {list : List ℤ} {entries : ℕ} {out₀ out : List ℕ} {at end p n : ℕ} (d : Spreading list entries out₀ at end out p n) where
-  pub spreading-over : entries ≤ n → Reached list entries out₀ at end p out
-  spreading-over over = let all : n ≡ entries = omega (arith, d .within) in rw all at (d .reached)
+  pub spreading-over : entries ≤ n → Spread list entries out₀ at end p out
+  spreading-over over = let all : n ≡ entries = omega (arith, d .within) in rw all at (d .spread)
 
   module _ (storable : Storable list entries out₀ at) (more : n < entries) where
     inside : n < length list
@@ -148,17 +148,17 @@ module _ {list : List ℤ} {entries : ℕ} {out₀ out : List ℕ} {at end p n :
         record {
           inside = inside;
           valid = valid-at list n (pos 0) (storable .valid) inside;
-          room = omega (arith, size, deltas-few (suc n) entries list more, d .reached .next, d .same, storable .room);
+          room = omega (arith, size, deltas-few (suc n) entries list more, d .spread .next, d .same, storable .room);
         }
 
     pub spreading-turn : (p′ : ℕ) (new : List ℕ) → length new ≡ length out → QuickStored list n out p end p′ new → Spreading list entries out₀ at end new p′ (n + 1)
     spreading-turn p′ new kept stored =
         let bytes = deltaBytes (wordAt list n) in
-        let before = d .reached in
+        let before = d .spread in
         record {
           within = omega arith;
           same = kept ∙ d .same;
-          reached = rw (add-one n) (record {
+          spread = rw (add-one n) (record {
             next = omega (arith, size, stored .next, before .next);
             kept = λ i early. stored .kept i (omega (arith, before .next)) ∙ before .kept i early;
             further = λ xs ends.
@@ -168,7 +168,7 @@ module _ {list : List ℤ} {entries : ℕ} {out₀ out : List ℕ} {at end p n :
           });
         }
 
--- ---- how far they go at mostEntries
+-- ---- how far they go at most
 
 pub symbol-below : (list : List ℤ) (entries n : ℕ) → Below 2 (take entries (map symbolOf list)) → n < entries → entries ≤ length list → symbolOf (wordAt list n) < 2
 symbol-below list entries n below more inside =
@@ -182,9 +182,9 @@ module _ {list : List ℤ} {entries : ℕ} {out₀ out : List ℕ} {at end p n :
   size-taken = rw (length-map, length-take) (omega arith)
 
   pub pace-two : p ≤ at + 2 * n
-  pace-two = omega (arith, d .reached .next, length-deltas (take n list), width-le 2 (map symbolOf (take n list)) (omega arith) (symbols-lt (take n list)), size-taken)
+  pace-two = omega (arith, d .spread .next, length-deltas (take n list), width-le 2 (map symbolOf (take n list)) (omega arith) (symbols-lt (take n list)), size-taken)
 
   pub pace-one : Below 2 (take entries (map symbolOf list)) → p ≤ at + n
   pace-one below =
       let here : Below 2 (map symbolOf (take n list)) = rw (take-take n entries (map symbolOf list) (d .within), take-symbols n list) at (below-take 2 n (take entries (map symbolOf list)) below) in
-      omega (arith, d .reached .next, length-deltas (take n list), width-le 1 (map symbolOf (take n list)) (omega arith) here, size-taken)
+      omega (arith, d .spread .next, length-deltas (take n list), width-le 1 (map symbolOf (take n list)) (omega arith) here, size-taken)

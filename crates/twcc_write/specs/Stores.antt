@@ -45,7 +45,7 @@ pub record Storable (list : List ℤ) (entries : ℕ) (out : List ℕ) (at : ℕ
 abbrev pub Stored : List ℤ → ℕ → List ℕ → ℕ → List ℕ → Type 0
 Stored list entries old at new = new ≡ sets old at (deltas (take entries list))
 
-pub record Reached (list : List ℤ) (entries : ℕ) (old : List ℕ) (at end to : ℕ) (new : List ℕ) : Type 0 where
+pub record Spread (list : List ℤ) (entries : ℕ) (old : List ℕ) (at end to : ℕ) (new : List ℕ) : Type 0 where
   pub next : to ≡ at + length (deltas (take entries list))
   pub kept : (i : ℕ) → i < at → getD new i 0 ≡ getD old i 0
   pub further : (xs : List ℕ) → to + length xs ≡ end → sets new to xs ≡ sets old at (deltas (take entries list) ++ xs)

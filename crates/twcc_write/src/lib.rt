@@ -22,7 +22,7 @@ ghost use Rattle.twcc.specs.Chunks.{Below};
 ghost use Rattle.twcc_plan.specs.Block.{header, sizeOf};
 ghost use Rattle.twcc_plan.specs.Limits.{limitOf};
 ghost use Rattle.twcc_write.specs.Limits.{leastOf, limitWithin};
-ghost use Rattle.twcc_write.specs.Stores.{wordAt, DeltaStorable, DeltaStored, QuickStored, Storable, Reached, RunStorable, ChunkStorable, Carriable, Plannable, BlockStorable, BlockStored};
+ghost use Rattle.twcc_write.specs.Stores.{wordAt, DeltaStorable, DeltaStored, QuickStored, Storable, Spread, RunStorable, ChunkStorable, Carriable, Plannable, BlockStorable, BlockStored};
 ghost use Rattle.twcc_write.specs.Promise.{Wrote};
 
 // The most entries of a list.
@@ -138,7 +138,7 @@ fn put_quick(list: &[i32], n: usize, out: &mut [u8], at: usize, end: usize) -> u
 // The delta bytes of the first entries, one by one; the place after them.
 fn put_each(rest: &[i32], entries: usize, out: &mut [u8], at: usize, end: usize) -> usize
     requires { ⌜ (Storable (now rest) entries (now out) at) × (end ≤ length (now out)) ⌝ }
-    ensures { λ r. ⌜ Reached (now (rest .entry)) entries (now (out .entry)) at end r (now (out .exit)) ⌝ }
+    ensures { λ r. ⌜ Spread (now (rest .entry)) entries (now (out .entry)) at end r (now (out .exit)) ⌝ }
 {
     let mut p = at;
     let mut n: usize = 0;
@@ -152,7 +152,7 @@ fn put_each(rest: &[i32], entries: usize, out: &mut [u8], at: usize, end: usize)
 // The delta bytes of a whole one-bit vector.
 fn put_fourteen(rest: &[i32], out: &mut [u8], at: usize, end: usize) -> usize
     requires { ⌜ (Storable (now rest) 14 (now out) at) × (Below 2 (take 14 (map symbolOf (now rest)))) × (at + 14 ≤ end) × (end ≤ length (now out)) ⌝ }
-    ensures { λ r. ⌜ Reached (now (rest .entry)) 14 (now (out .entry)) at end r (now (out .exit)) ⌝ }
+    ensures { λ r. ⌜ Spread (now (rest .entry)) 14 (now (out .entry)) at end r (now (out .exit)) ⌝ }
 {
     let mut p = at;
     let mut n: usize = 0;
@@ -166,7 +166,7 @@ fn put_fourteen(rest: &[i32], out: &mut [u8], at: usize, end: usize) -> usize
 // The delta bytes of a whole two-bit vector.
 fn put_seven(rest: &[i32], out: &mut [u8], at: usize, end: usize) -> usize
     requires { ⌜ (Storable (now rest) 7 (now out) at) × (at + 14 ≤ end) × (end ≤ length (now out)) ⌝ }
-    ensures { λ r. ⌜ Reached (now (rest .entry)) 7 (now (out .entry)) at end r (now (out .exit)) ⌝ }
+    ensures { λ r. ⌜ Spread (now (rest .entry)) 7 (now (out .entry)) at end r (now (out .exit)) ⌝ }
 {
     let mut p = at;
     let mut n: usize = 0;
@@ -180,7 +180,7 @@ fn put_seven(rest: &[i32], out: &mut [u8], at: usize, end: usize) -> usize
 // The delta bytes of a one-bit vector: all at once where it is whole and not the last.
 fn put_ones(rest: &[i32], entries: usize, out: &mut [u8], at: usize, end: usize) -> usize
     requires { ⌜ (Storable (now rest) entries (now out) at) × (Below 2 (take entries (map symbolOf (now rest)))) × (end ≤ length (now out)) ⌝ }
-    ensures { λ r. ⌜ Reached (now (rest .entry)) entries (now (out .entry)) at end r (now (out .exit)) ⌝ }
+    ensures { λ r. ⌜ Spread (now (rest .entry)) entries (now (out .entry)) at end r (now (out .exit)) ⌝ }
 {
     if entries != 14 {
         return put_each(rest, entries, out, at, end);
@@ -194,7 +194,7 @@ fn put_ones(rest: &[i32], entries: usize, out: &mut [u8], at: usize, end: usize)
 // The same of a two-bit vector.
 fn put_twos(rest: &[i32], entries: usize, out: &mut [u8], at: usize, end: usize) -> usize
     requires { ⌜ (Storable (now rest) entries (now out) at) × (end ≤ length (now out)) ⌝ }
-    ensures { λ r. ⌜ Reached (now (rest .entry)) entries (now (out .entry)) at end r (now (out .exit)) ⌝ }
+    ensures { λ r. ⌜ Spread (now (rest .entry)) entries (now (out .entry)) at end r (now (out .exit)) ⌝ }
 {
     if entries != 7 {
         return put_each(rest, entries, out, at, end);
@@ -251,7 +251,7 @@ fn put_chunk(
     end: usize,
 ) -> usize
     requires { ⌜ (ChunkStorable (now rest) chunk entries (now out) at) × (end ≤ length (now out)) ⌝ }
-    ensures { λ r. ⌜ Reached (now (rest .entry)) entries (now (out .entry)) at end r (now (out .exit)) ⌝ }
+    ensures { λ r. ⌜ Spread (now (rest .entry)) entries (now (out .entry)) at end r (now (out .exit)) ⌝ }
 {
     if chunk < RUN_WEIGHT {
         return at;
@@ -281,7 +281,7 @@ fn put_from(
     end: usize,
 ) -> usize
     requires { ⌜ (from ≤ length (now list)) × (ChunkStorable (drop from (now list)) chunk entries (now out) at) × (end ≤ length (now out)) ⌝ }
-    ensures { λ r. ⌜ Reached (drop from (now (list .entry))) entries (now (out .entry)) at end r (now (out .exit)) ⌝ }
+    ensures { λ r. ⌜ Spread (drop from (now (list .entry))) entries (now (out .entry)) at end r (now (out .exit)) ⌝ }
 {
     let rest = &list[from..];
     put_chunk(rest, chunk, entries, out, at, end)

@@ -5,12 +5,12 @@ use native.Mathlib.Omega.{arith}
 use denote.Ref.{now}
 use lib.ListN.{length}
 use Rattle.twcc_plan.specs.Limits.{limitOf}
-use Rattle.twcc_plan.proofs.Planning.{Looping, looping-start, Turned, turned, stopped, ended}
+use Rattle.twcc_plan.proofs.Planning.{Planning, planning-start, Turned, turned, stopped, ended}
 use Rattle.twcc_plan.proofs.plan_chunks.Statement.{statement}
 use Rattle.twcc_plan.proofs.plan_chunks.Tie as tie
 
 abbrev Inv-loop : tie.InvT-loop
-Inv-loop list limit out₀ chunks₀ used₀ taken₀ out chunks used taken = Looping list (limitOf limit) out₀ out chunks used taken
+Inv-loop list limit out₀ chunks₀ used₀ taken₀ out chunks used taken = Planning list (limitOf limit) out₀ out chunks used taken
 
 abbrev μ-loop : tie.MeasureT-loop
 μ-loop list limit out₀ chunks₀ used₀ taken₀ out chunks used taken = length list - taken
@@ -27,7 +27,7 @@ small : (l : tie.At-loop Inv-loop μ-loop) → (4 * l .loop .chunks ≤ 92233720
 small l = omega (arith, l .loop .inv .few, l .loop .inv .inside, l .loop .inv .small, long (l .before .before))
 
 loop-holds : tie.Need-loop-holds Inv-loop μ-loop
-loop-holds c = looping-start _ _ _
+loop-holds c = planning-start _ _ _
 
 next-chunk-requires : tie.Need-next-chunk-requires Inv-loop μ-loop
 next-chunk-requires c κs = record { inside = c .loop-test .taken; small = c .before .loop .inv .small }

@@ -1,7 +1,7 @@
 -- A run's word says the symbol of all its entries; a vector's are looked at one by one.
 use borrow.Author.Needs.{needs}
 use native.Mathlib.Omega.{arith}
-use Rattle.twcc_write.proofs.Running.{chunk-run, lost-stored, small-reached, large-symbol, large-reached}
+use Rattle.twcc_write.proofs.Running.{chunk-run, lost-stored, small-spread, large-symbol, large-spread}
 use Rattle.twcc_write.proofs.put_chunk.Statement.{statement}
 use Rattle.twcc_write.proofs.put_chunk.Tie as tie
 
@@ -18,7 +18,7 @@ same-length : tie.Need-same-length
 same-length c = search needs
 
 returns-2 : tie.Need-returns-2
-returns-2 c = small-reached (c .before .before .before .before .before .before .before .pre .0) _ (c .before .before .before .before .before .if1 .left) (c .before .before .before .before .if2 .taken) (c .before .before .put-small .ensures)
+returns-2 c = small-spread (c .before .before .before .before .before .before .before .pre .0) _ (c .before .before .before .before .before .if1 .left) (c .before .before .before .before .if2 .taken) (c .before .before .put-small .ensures)
 
 put-large-requires : tie.Need-put-large-requires
 put-large-requires c κs = chunk-run (c .before .before .before .before .before .pre .0) 2 (c .before .if3 .taken) (large-symbol (c .before .before .before .before .before .pre .0) (c .before .before .if2 .left) (c .before .if3 .taken))
@@ -33,7 +33,7 @@ same-length-2 : tie.Need-same-length-2
 same-length-2 c = search needs
 
 returns-3 : tie.Need-returns-3
-returns-3 c = large-reached (c .before .before .before .before .before .before .before .before .pre .0) _ (c .before .before .before .before .before .if2 .left) (c .before .before .before .before .if3 .taken) (c .before .before .put-large .ensures)
+returns-3 c = large-spread (c .before .before .before .before .before .before .before .before .pre .0) _ (c .before .before .before .before .before .if2 .left) (c .before .before .before .before .if3 .taken) (c .before .before .put-large .ensures)
 
 put-ones-requires : tie.Need-put-ones-requires
 put-ones-requires c κs = let s = c .before .before .before .before .before .before in (s .pre .0 .storable, s .pre .0 .ones (c .before .before .if3 .left) (c .before .if4 .taken), s .pre .1)

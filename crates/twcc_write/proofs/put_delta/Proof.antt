@@ -6,7 +6,7 @@ use lib.ListN.{length-set}
 use Rattle.twcc.specs.Words.{symbolOf}
 use Rattle.twcc_write.specs.Stores.{wordAt}
 use Rattle.twcc_write.proofs.Words.{small-bits, bits-lt}
-use Rattle.twcc_write.proofs.Delivering.{none-stored, small-stored, large-stored}
+use Rattle.twcc_write.proofs.Storing.{none-stored, small-stored, large-stored}
 use borrow.Author.Needs.{needs}
 use Rattle.twcc_write.proofs.put_delta.Statement.{statement}
 use Rattle.twcc_write.proofs.put_delta.Tie as tie

@@ -1,4 +1,4 @@
--- Each turn stores one word's delta, a byte at mostEntries.
+-- Each turn stores one word's delta, a byte at most.
 use borrow.Author.Needs.{needs}
 use Prim.Native.Nat.{_-_}
 use native.Mathlib.Omega.{arith}

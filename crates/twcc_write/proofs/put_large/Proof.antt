@@ -8,19 +8,19 @@ use lib.IntN.{pos}
 use lib.ListN.{length, length-set}
 use Rattle.twcc_write.specs.Stores.{wordAt}
 use Rattle.twcc_write.proofs.Words.{bits-lt, valid-at}
-use Rattle.twcc_write.proofs.Delivering.{Delivering, delivering-start, delivering-over}
+use Rattle.twcc_write.proofs.Storing.{Storing, storing-start, storing-over}
 use Rattle.twcc_write.proofs.Running.{run-room, large-turn}
 use Rattle.twcc_write.proofs.put_large.Statement.{statement}
 use Rattle.twcc_write.proofs.put_large.Tie as tie
 
 abbrev Inv-loop : tie.InvT-loop
-Inv-loop rest entries out₀ at n₀ out n = Delivering rest entries out₀ at out (at + 2 * n) n
+Inv-loop rest entries out₀ at n₀ out n = Storing rest entries out₀ at out (at + 2 * n) n
 
 abbrev μ-loop : tie.MeasureT-loop
 μ-loop rest entries out₀ at n₀ out n = entries - n
 
 loop-holds : tie.Need-loop-holds Inv-loop μ-loop
-loop-holds c = rw add-zero (delivering-start _ _ _ _)
+loop-holds c = rw add-zero (storing-start _ _ _ _)
 
 low-at-requires : tie.Need-low-at-requires Inv-loop μ-loop
 low-at-requires c κs =
@@ -65,7 +65,7 @@ same-length : tie.Need-same-length Inv-loop μ-loop
 same-length c = c .before .loop .inv .same
 
 returns : tie.Need-returns Inv-loop μ-loop
-returns c = delivering-over (c .before .loop .inv) (c .loop-test .left)
+returns c = storing-over (c .before .loop .inv) (c .loop-test .left)
 
 pub put-large-spec : {M : Type 1} → statement M
 put-large-spec =

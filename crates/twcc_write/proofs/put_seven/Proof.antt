@@ -1,4 +1,4 @@
--- Each turn stores one word's delta, two bytes at mostEntries.
+-- Each turn stores one word's delta, two bytes at most.
 use borrow.Author.Needs.{needs}
 use Prim.Native.Nat.{_-_}
 use native.Mathlib.Omega.{arith}

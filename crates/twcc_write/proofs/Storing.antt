@@ -34,19 +34,19 @@ module _ (list : List ℤ) (n : ℕ) (old : List ℕ) (at symbol : ℕ) (is : sy
 -- ---- the deltas of the first entries
 
 -- n of them are stored
-pub record Delivering (list : List ℤ) (entries : ℕ) (out₀ : List ℕ) (at : ℕ) (out : List ℕ) (p n : ℕ) : Type 0 where
+pub record Storing (list : List ℤ) (entries : ℕ) (out₀ : List ℕ) (at : ℕ) (out : List ℕ) (p n : ℕ) : Type 0 where
   pub within : n ≤ entries
   pub same : length out ≡ length out₀
   pub place : p + length (deltas (take (entries - n) (drop n list))) ≡ at + length (deltas (take entries list))
   pub left : sets out p (deltas (take (entries - n) (drop n list))) ≡ sets out₀ at (deltas (take entries list))
 
-pub delivering-start : (list : List ℤ) (entries : ℕ) (out : List ℕ) (at : ℕ) → Delivering list entries out at out at 0
-delivering-start list entries out at = record { within = omega arith; same = refl; place = rw sub-zero refl; left = rw sub-zero refl }
+pub storing-start : (list : List ℤ) (entries : ℕ) (out : List ℕ) (at : ℕ) → Storing list entries out at out at 0
+storing-start list entries out at = record { within = omega arith; same = refl; place = rw sub-zero refl; left = rw sub-zero refl }
 
-module _ {list : List ℤ} {entries : ℕ} {out₀ out : List ℕ} {at p n : ℕ} (d : Delivering list entries out₀ at out p n) where
-  pub delivering-over : entries ≤ n → Stored list entries out₀ at out
+module _ {list : List ℤ} {entries : ℕ} {out₀ out : List ℕ} {at p n : ℕ} (d : Storing list entries out₀ at out p n) where
+  pub storing-over : entries ≤ n → Stored list entries out₀ at out
   unfolding deltas
-  delivering-over over =
+  storing-over over =
       let none : entries - n ≡ 0 = omega (arith, d .within) in
       rw none at (d .left)
 
@@ -65,8 +65,8 @@ module _ {list : List ℤ} {entries : ℕ} {out₀ out : List ℕ} {at p n : ℕ
         ap length opened ∙ length-append (deltaBytes (wordAt list n)) (deltas (take (entries - suc n) (drop (suc n) list)))
         ∙ ap (λ (k : ℕ). k + length (deltas (take (entries - suc n) (drop (suc n) list)))) (length-delta (wordAt list n))
 
-    pub delivering-turn : (p′ : ℕ) (new : List ℕ) → length new ≡ length out → DeltaStored list n out p p′ new → Delivering list entries out₀ at new p′ (n + 1)
-    delivering-turn p′ new kept stored =
+    pub storing-turn : (p′ : ℕ) (new : List ℕ) → length new ≡ length out → DeltaStored list n out p p′ new → Storing list entries out₀ at new p′ (n + 1)
+    storing-turn p′ new kept stored =
         let rest = deltas (take (entries - suc n) (drop (suc n) list)) in
         let place : p′ ≡ p + length (deltaBytes (wordAt list n)) = omega (arith, stored .next, length-delta (wordAt list n)) in
         record {
