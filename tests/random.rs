@@ -1,6 +1,6 @@
-//! Every report on random files: always an answer or a refusal in words, in time.
+//! Every report on random files: byte for byte that of a second reader, in time.
 
-use command_tests::{bogslipper, file, with_input};
+use command_tests::{bogslipper, file, report, with_input};
 
 /// The xorshift generator of Marsaglia, with 64 bits.
 struct Random(u64);
@@ -47,16 +47,14 @@ fn contents(random: &mut Random, turn: usize) -> Vec<u8> {
     bytes
 }
 
-fn two_hundred(report: &str, seed: u64) {
+fn two_hundred(command: &str, seed: u64) {
     let mut random = Random(seed);
     for turn in 0..200 {
         let bytes = contents(&mut random, turn);
-        let path = file(&format!("random-{report}-{turn}"), &bytes);
-        let ran = bogslipper(&[report, &path]);
-        assert!(ran.status == 0 || ran.status == 1, "{path}: {}", ran.err);
-        assert_eq!(ran.err, "", "{path}");
-        assert!(ran.out.ends_with('\n'), "{path}");
-        assert_eq!(ran.status == 1, ran.out.contains("refused "), "{path}");
+        let path = file(&format!("random-{command}-{turn}"), &bytes);
+        let words = [command, &path];
+        let (status, text) = report::on(command, &bytes);
+        bogslipper(&words).ended(&words, status, &text, "");
         std::fs::remove_file(path).unwrap();
     }
 }
@@ -82,10 +80,14 @@ fn as_hex_text() {
     let mut random = Random(4);
     for turn in 0..100 {
         let bytes = contents(&mut random, turn);
-        let ran = with_input(&["twcc", "--hex", "-"], &bytes);
-        match ran.status {
-            2 => assert!(ran.out.is_empty() && ran.err.contains("hex digit")),
-            _ => assert!(!ran.out.is_empty() && ran.err.is_empty()),
+        let words = ["twcc", "--hex", "-"];
+        let ran = with_input(&words, &bytes);
+        match report::hex(&bytes) {
+            Ok(block) => {
+                let (status, text) = report::on("twcc", &block);
+                ran.ended(&words, status, &text, "");
+            }
+            Err(why) => ran.ended(&words, 2, "", &format!("bogslipper: -: {why}\n")),
         }
     }
 }

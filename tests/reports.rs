@@ -1,123 +1,184 @@
-//! What the command reports on the samples and on each datagram of real traffic.
+//! What the command reports: on the samples and on a few bytes as written by hand, on each datagram of real traffic as a
+//! second reader has it. Whole texts are compared, byte for byte.
 
-use command_tests::{bogslipper, root, sample, with_input, Ran};
+use command_tests::{bogslipper, report, root, sample, with_input};
 
-/// The report on a sample is the expected one, word for word, and nothing was refused.
-fn reports(words: &[&str], expected: &str) {
-    let ran = bogslipper(words);
-    let path = root().join("tests/expected").join(expected);
-    assert_eq!(ran.out, std::fs::read_to_string(path).unwrap());
-    assert_eq!((ran.status, ran.err.as_str()), (0, ""));
+/// A text of tests/expected.
+fn expected(name: &str) -> String {
+    std::fs::read_to_string(root().join("tests/expected").join(name)).unwrap()
+}
+
+/// The report on a sample is the expected one, and the second reader's.
+fn reports(command: &str, name: &str, status: i32) {
+    let path = sample(&format!("{name}.hex"));
+    let words = [command, "--hex", &path];
+    let text = expected(&format!("{name}.txt"));
+    bogslipper(&words).ended(&words, status, &text, "");
+    let bytes = report::hex(&std::fs::read(&path).unwrap()).unwrap();
+    assert_eq!(report::on(command, &bytes), (status, text));
 }
 
 #[test]
 fn the_samples() {
-    reports(
-        &["compound", "--hex", &sample("compound.hex")],
-        "compound.txt",
-    );
-    reports(&["compound", "--hex", &sample("padded.hex")], "padded.txt");
-    reports(&["nack", "--hex", &sample("nack.hex")], "nack.txt");
-    reports(&["twcc", "--hex", &sample("twcc.hex")], "twcc.txt");
-}
-
-#[test]
-fn options_stand_anywhere() {
-    reports(&["--hex", "twcc", &sample("twcc.hex")], "twcc.txt");
-    reports(&["twcc", &sample("twcc.hex"), "--hex"], "twcc.txt");
+    reports("compound", "compound", 0);
+    reports("compound", "padded", 0);
+    reports("nack", "nack", 0);
+    reports("twcc", "twcc", 0);
 }
 
 #[test]
 fn a_cut_datagram_is_refused_and_walked_as_far_as_it_goes() {
-    let ran = bogslipper(&["compound", "--hex", &sample("cut.hex")]);
-    let lines: Vec<&str> = ran.out.lines().collect();
-    assert_eq!(lines.len(), 4);
-    assert_eq!(
-        lines[0],
-        "first pass: refused 1: bytes too short: 36 expected, 33 present"
+    reports("compound", "cut", 1);
+}
+
+#[test]
+fn options_stand_anywhere() {
+    let path = sample("twcc.hex");
+    for words in [["--hex", "twcc", &path], ["twcc", &path, "--hex"]] {
+        bogslipper(&words).ended(&words, 0, &expected("twcc.txt"), "");
+    }
+}
+
+/// The command's whole report on these bytes.
+fn says(command: &str, bytes: &[u8], status: i32, lines: &[&str]) {
+    let words = [command, "-"];
+    let text: String = lines.iter().map(|line| format!("{line}\n")).collect();
+    with_input(&words, bytes).ended(&words, status, &text, "");
+    assert_eq!(report::on(command, bytes), (status, text));
+}
+
+#[test]
+fn no_bytes() {
+    says(
+        "compound",
+        &[],
+        1,
+        &[
+            "first pass: refused 1: bytes too short: 4 expected, 0 present",
+            " offset  type  name   count  length  padding  holds",
+        ],
     );
-    assert!(lines[2].starts_with("      0   200  SR "));
-    assert_eq!(
-        lines[3],
-        "walk at 28: refused 1: bytes too short: 36 expected, 33 present"
+    says(
+        "nack",
+        &[],
+        0,
+        &["bytes 0, entries 0, ignored at the end 0", " entry  number"],
     );
-    assert_eq!((ran.status, ran.err.as_str()), (1, ""));
+    says(
+        "twcc",
+        &[],
+        1,
+        &["refused 1: bytes too short: 8 expected, 0 present"],
+    );
 }
 
 #[test]
 fn a_version_is_refused_by_the_walk() {
-    let ran = with_input(&["compound", "--hex", "-"], b"80 cb 00 00 40 cb 00 00");
-    assert!(ran.out.starts_with("first pass: accepted, 8 bytes\n"));
-    assert!(ran
-        .out
-        .ends_with("walk at 4: refused 2: version 1 where 2 is expected\n"));
-    assert_eq!(ran.status, 1);
+    says(
+        "compound",
+        &[0x80, 0xcb, 0, 0, 0x40, 0xcb, 0, 0],
+        1,
+        &[
+            "first pass: accepted, 8 bytes",
+            " offset  type  name   count  length  padding  holds",
+            "      0   203  BYE        0       4        -  -",
+            "walk at 4: refused 2: version 1 where 2 is expected",
+        ],
+    );
+}
+
+#[test]
+fn the_first_version_is_refused_by_both() {
+    says(
+        "compound",
+        &[0xff, 0xcb, 0, 0],
+        1,
+        &[
+            "first pass: refused 2: version 3 where 2 is expected",
+            " offset  type  name   count  length  padding  holds",
+            "walk at 0: refused 2: version 3 where 2 is expected",
+        ],
+    );
 }
 
 #[test]
 fn padding_before_the_last_packet_is_refused() {
-    let ran = with_input(&["compound", "--hex", "-"], b"a0cb0000 80cb0000");
-    let verdict = "first pass: refused 5: padding with a count of 0 or before the last packet\n";
-    assert!(ran.out.starts_with(verdict), "{}", ran.out);
-    assert_eq!(ran.status, 1);
+    says(
+        "compound",
+        &[0xa0, 0xcb, 0, 0, 0x80, 0xcd, 0, 0],
+        1,
+        &[
+            "first pass: refused 5: padding with a count of 0 or before the last packet",
+            " offset  type  name   count  length  padding  holds",
+            "      0   203  BYE        0       4        0  -",
+            "      4   205  RTPFB      0       4        -  -",
+        ],
+    );
 }
 
 #[test]
 fn a_short_block_is_refused() {
-    let ran = with_input(&["twcc", "-"], &[0; 7]);
-    assert_eq!(
-        ran.out,
-        "refused 1: bytes too short: 8 expected, 7 present\n"
+    says(
+        "twcc",
+        &[0; 7],
+        1,
+        &["refused 1: bytes too short: 8 expected, 7 present"],
     );
-    assert_eq!((ran.status, ran.err.as_str()), (1, ""));
+}
+
+#[test]
+fn a_block_of_every_status() {
+    says(
+        "twcc",
+        &[
+            0xff, 0xff, 0, 6, 0, 0, 0, 9, 0xd8, 0xc9, 7, 0xff, 0xfe, 1, 2,
+        ],
+        0,
+        &[
+            "base 65535, statuses 6, listed 6, feedback 9, time 0 (0 ms)",
+            " number  status         delta         ticks    milliseconds",
+            "  65535  received           7             7            1.75",
+            "      0  received          -2            -2           -0.50",
+            "      1  not-received       -             -               -",
+            "      2  reserved           -             -               -",
+            "      3  not-received       -             -               -",
+            "      4  received         258           258           64.50",
+        ],
+    );
+    says(
+        "twcc",
+        &[0, 5, 0, 3, 0, 0, 1, 0, 0xe9, 0, 0x7f],
+        0,
+        &[
+            "base 5, statuses 3, listed 3, feedback 0, time 1 (64 ms)",
+            " number  status         delta         ticks    milliseconds",
+            "      5  truncated          -             -               -",
+            "      6  truncated          -             -               -",
+            "      7  truncated          -             -               -",
+        ],
+    );
 }
 
 #[test]
 fn raw_bytes_are_the_same_as_their_hex() {
-    let raw = with_input(&["nack", "-"], &[0xff, 0xff, 0, 1, 9]);
-    let hex = with_input(
-        &["nack", "--hex", "-"],
-        b"FF ff\t00 # the mask\r\n0 1\n09\n",
-    );
-    assert_eq!(raw.out, hex.out);
-    assert_eq!(raw.out, "bytes 5, entries 1, ignored at the end 1\n entry  number\n     0   65535\n     0       0\n");
-    assert_eq!((raw.status, hex.status), (0, 0));
+    let text = "bytes 5, entries 1, ignored at the end 1\n entry  number\n     0   65535\n     0       0\n";
+    let words = ["nack", "-"];
+    with_input(&words, &[0xff, 0xff, 0, 1, 9]).ended(&words, 0, text, "");
+    let words = ["nack", "--hex", "-"];
+    let hex = b"FF ff\t00 # the mask\r\n0 1\n09\n";
+    with_input(&words, hex).ended(&words, 0, text, "");
 }
 
 #[test]
 fn skip_and_take_leave_a_part() {
-    let padded = sample("padded.hex");
-    let ran = bogslipper(&["twcc", "--hex", "--skip", "12", "--take", "18", &padded]);
-    assert!(ran
-        .out
-        .starts_with("base 1, statuses 6, listed 6, feedback 0, time 16229 (1038656 ms)\n"));
-    assert_eq!(ran.status, 0);
-    let ran = bogslipper(&["nack", "--hex", "--skip", "9999999", &padded]);
-    assert_eq!(
-        ran.out,
-        "bytes 0, entries 0, ignored at the end 0\n entry  number\n"
-    );
-}
-
-/// A packet's row in a compound's report.
-struct Row {
-    offset: usize,
-    length: usize,
-    padding: usize,
-    holds: String,
-}
-
-fn rows(ran: &Ran) -> Vec<Row> {
-    let row = |line: &str| {
-        let cells: Vec<&str> = line.split_whitespace().collect();
-        Row {
-            offset: cells[0].parse().unwrap(),
-            length: cells[4].parse().unwrap(),
-            padding: cells[5].parse().unwrap_or(0),
-            holds: cells[6].to_string(),
-        }
-    };
-    ran.out.lines().skip(2).map(row).collect()
+    let path = sample("padded.hex");
+    let bytes = report::hex(&std::fs::read(&path).unwrap()).unwrap();
+    let words = ["twcc", "--hex", "--skip", "12", "--take", "18", &path];
+    let (status, text) = report::on("twcc", &bytes[12..30]);
+    bogslipper(&words).ended(&words, status, &text, "");
+    let words = ["nack", "--hex", "--skip", "9999999", &path];
+    let text = "bytes 0, entries 0, ignored at the end 0\n entry  number\n";
+    bogslipper(&words).ended(&words, 0, text, "");
 }
 
 /// Every datagram is a compound whose packets lie end to end, and every block in it is read to its last entry.
@@ -129,47 +190,40 @@ fn the_traffic() {
             .unwrap()
             .lines()
         {
-            let ran = with_input(&["compound", "--hex", "-"], line.as_bytes());
-            let accepted = format!("first pass: accepted, {} bytes\n", line.len() / 2);
-            assert!(ran.out.starts_with(&accepted), "{line}: {}", ran.out);
-            assert_eq!(ran.status, 0, "{line}");
-            let mut end = 0;
-            for row in rows(&ran) {
-                assert_eq!(row.offset, end, "{line}");
-                end += row.length;
-                blocks += block(line, &row);
-            }
-            assert_eq!(end, line.len() / 2, "{line}");
+            let bytes = report::hex(line.as_bytes()).unwrap();
+            let words = ["compound", "--hex", "-"];
+            let (status, text) = report::on("compound", &bytes);
+            with_input(&words, line.as_bytes()).ended(&words, 0, &text, "");
+            assert_eq!(status, 0, "{line}");
+            blocks += text
+                .lines()
+                .skip(2)
+                .filter(|row| block(line, &bytes, row))
+                .count();
             datagrams += 1;
         }
     }
     assert_eq!((datagrams, blocks), (60, 31));
 }
 
-/// Reads the block that a packet holds, if it holds one; how many were read.
-fn block(line: &str, row: &Row) -> usize {
-    if row.holds == "-" {
-        return 0;
+/// Reads the block that a packet holds, whose row in the compound's report this is; whether it holds one.
+fn block(line: &str, bytes: &[u8], row: &str) -> bool {
+    let cells: Vec<&str> = row.split_whitespace().collect();
+    let number = |place: usize| cells[place].parse().unwrap_or(0);
+    let (offset, length, padding, holds): (usize, usize, usize, &str) =
+        (number(0), number(4), number(5), cells[6]);
+    if holds == "-" {
+        return false;
     }
-    let skip = (row.offset + 12).to_string();
-    let take = (row.length - 12 - row.padding).to_string();
-    let words = [&row.holds, "--hex", "--skip", &skip, "--take", &take, "-"];
-    let ran = with_input(&words, line.as_bytes());
-    assert_eq!((ran.status, ran.err.as_str()), (0, ""), "{line}");
-    for entry in ran.out.lines().skip(2) {
-        assert!(
-            !entry.contains("truncated") && !entry.contains("reserved"),
-            "{line}: {entry}"
-        );
-    }
-    if row.holds == "twcc" {
-        let header: Vec<&str> = ran.out.lines().next().unwrap().split([' ', ',']).collect();
+    let (skip, take) = (offset + 12, length - 12 - padding);
+    let (_, text) = report::on(holds, &bytes[skip..skip + take]);
+    let (skip, take) = (skip.to_string(), take.to_string());
+    let words = [holds, "--hex", "--skip", &skip, "--take", &take, "-"];
+    with_input(&words, line.as_bytes()).ended(&words, 0, &text, "");
+    assert!(!text.contains("truncated") && !text.contains("reserved"));
+    if holds == "twcc" {
+        let header: Vec<&str> = text.split([' ', ',']).collect();
         assert_eq!(header[4], header[7], "all statuses are listed: {line}");
-        assert_eq!(
-            ran.out.lines().count() - 2,
-            header[4].parse::<usize>().unwrap(),
-            "{line}"
-        );
     }
-    1
+    true
 }

@@ -1,5 +1,7 @@
 //! Runs the command `bogslipper` on words and a standard input, with a limit on its time.
 
+pub mod report;
+
 use std::fs::File;
 use std::io::{Read, Write};
 use std::path::{Path, PathBuf};
@@ -16,6 +18,36 @@ pub struct Ran {
     pub status: i32,
     pub out: String,
     pub err: String,
+}
+
+impl Ran {
+    /// The run of these words ended with this status and wrote exactly these texts.
+    pub fn ended(&self, words: &[&str], status: i32, out: &str, err: &str) {
+        same_text(&self.out, out, words, "standard output");
+        same_text(&self.err, err, words, "standard error");
+        assert_eq!(
+            self.status, status,
+            "the exit status of bogslipper {words:?}"
+        );
+    }
+}
+
+/// Byte for byte; shows the first line that differs, with its end.
+fn same_text(is: &str, expected: &str, words: &[&str], what: &str) {
+    if is == expected {
+        return;
+    }
+    let mut lines = is.split_inclusive('\n').chain([""]);
+    let mut wanted = expected.split_inclusive('\n').chain([""]);
+    let mut number = 1;
+    loop {
+        let (line, wanted) = (lines.next(), wanted.next());
+        assert_eq!(
+            line, wanted,
+            "line {number} of {what}, bogslipper {words:?}"
+        );
+        number += 1;
+    }
 }
 
 /// The repository's root.

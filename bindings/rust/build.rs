@@ -27,7 +27,7 @@ fn given(folder: &Path) -> PathBuf {
     }
 }
 
-/// The folder of the archive that `rt` makes of the repository's crates.
+/// The folder of the archive that `.ci/built` makes of the repository's crates, where it is out of date.
 fn made(repository: &Path) -> PathBuf {
     let crates = repository.join("crates");
     println!("cargo:rerun-if-changed={}", crates.display());
@@ -37,19 +37,13 @@ fn made(repository: &Path) -> PathBuf {
             crates.display()
         ));
     }
-    let run = Command::new("rt")
-        .args(["staticlib", "exports"])
-        .current_dir(repository)
-        .output();
-    match run {
+    match Command::new(repository.join(".ci/built"))
+        .arg("archive")
+        .output()
+    {
         Ok(output) if output.status.success() => repository.join("target/staticlib"),
-        Ok(output) => stop(&format!(
-            "`rt staticlib exports` failed with {}:\n{}{}",
-            output.status,
-            String::from_utf8_lossy(&output.stdout),
-            String::from_utf8_lossy(&output.stderr)
-        )),
-        Err(error) => stop(&format!("`rt staticlib exports` cannot be run: {error}")),
+        Ok(output) => stop(&String::from_utf8_lossy(&output.stderr)),
+        Err(error) => stop(&format!("`.ci/built archive` cannot be run: {error}")),
     }
 }
 

@@ -2,24 +2,10 @@
 
 use std::iter::FusedIterator;
 
-use crate::said::{needed, Said};
+use crate::ffi;
+use crate::said::needed;
 use crate::utils::parser;
 use crate::Refusal;
-
-extern "C" {
-    fn bog_compound_parse(data: *const u8, n: usize) -> Said;
-    fn bog_unknown_parse(data: *const u8, n: usize) -> Said;
-    fn bog_walk_step(data: *const u8, n: usize, offset: u64) -> Said;
-    fn bog_unknown_write(
-        count: u8,
-        packet_type: u8,
-        body: *const u8,
-        body_n: usize,
-        padding: u8,
-        out: *mut u8,
-        out_n: usize,
-    ) -> Said;
-}
 
 /// A compound that the first pass accepted; an iterator over its packets.
 ///
@@ -57,7 +43,7 @@ impl<'a> Compound<'a> {
     /// padding bit before the last packet. Expected lengths count from the start of the data.
     pub fn parse(data: &'a [u8]) -> Result<Compound<'a>, Refusal> {
         // SAFETY: the call reads the slice alone and keeps nothing of it.
-        unsafe { bog_compound_parse(data.as_ptr(), data.len()) }.answer()?;
+        unsafe { ffi::bog_compound_parse(data.as_ptr(), data.len()) }.result()?;
         Ok(Compound { data, offset: 0 })
     }
 }
@@ -102,8 +88,8 @@ impl FusedIterator for Compound<'_> {}
 /// In this order: 1, fewer than four bytes left; 1, its length goes past the end; 2, this packet's own version.
 pub fn walk_step(data: &[u8], offset: usize) -> Result<Option<(&[u8], usize)>, Refusal> {
     // SAFETY: the call reads the slice alone and keeps nothing of it.
-    let said = unsafe { bog_walk_step(data.as_ptr(), data.len(), offset as u64) };
-    let [over, next, start, length, ..] = said.answer()?;
+    let said = unsafe { ffi::bog_walk_step(data.as_ptr(), data.len(), offset as u64) };
+    let [over, next, start, length, ..] = said.result()?;
     if over == 1 {
         return Ok(None);
     }
@@ -140,7 +126,7 @@ impl<'a> Unknown<'a> {
     /// In this order: 1, fewer than four bytes; 2, version; 1, shorter than its length; 4, longer.
     pub fn parse(data: &'a [u8]) -> Result<Unknown<'a>, Refusal> {
         // SAFETY: the call reads the slice alone and keeps nothing of it.
-        unsafe { bog_unknown_parse(data.as_ptr(), data.len()) }.answer()?;
+        unsafe { ffi::bog_unknown_parse(data.as_ptr(), data.len()) }.result()?;
         Ok(Unknown { data })
     }
 
@@ -313,7 +299,7 @@ impl<'a> UnknownBuilder<'a> {
     pub fn write_into(&self, buf: &mut [u8]) -> Result<usize, Refusal> {
         // SAFETY: the call reads the body and writes the buffer, which do not overlap, and keeps nothing of either.
         let said = unsafe {
-            bog_unknown_write(
+            ffi::bog_unknown_write(
                 self.count,
                 self.type_,
                 self.body.as_ptr(),
@@ -323,7 +309,7 @@ impl<'a> UnknownBuilder<'a> {
                 buf.len(),
             )
         };
-        let [written, ..] = said.answer()?;
+        let [written, ..] = said.result()?;
         Ok(written as usize)
     }
 }

@@ -29,6 +29,9 @@
 mod refusal;
 mod said;
 
+#[doc(hidden)]
+pub mod ffi;
+
 pub mod compound;
 pub mod nack;
 pub mod twcc;

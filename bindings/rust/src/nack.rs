@@ -6,14 +6,9 @@
 
 use std::fmt;
 
-use crate::said::{needed, Said};
+use crate::ffi;
+use crate::said::needed;
 use crate::Refusal;
-
-extern "C" {
-    fn bog_nack_add(store: *mut u8, store_n: usize, number: u16) -> Said;
-    fn bog_nack_read(data: *const u8, n: usize, list: *mut u16, list_n: usize) -> Said;
-    fn bog_nack_write(store: *const u8, store_n: usize, out: *mut u8, out_n: usize) -> Said;
-}
 
 /// The length of a store: one bit for each 16-bit number.
 ///
@@ -43,8 +38,9 @@ pub const STORE_LENGTH: usize = 8_192;
 /// 15, in list places.
 pub fn read(data: &[u8], list: &mut [u16]) -> Result<usize, Refusal> {
     // SAFETY: the call reads the data and writes the list, which do not overlap, and keeps nothing of either.
-    let said = unsafe { bog_nack_read(data.as_ptr(), data.len(), list.as_mut_ptr(), list.len()) };
-    let [listed, ..] = said.answer()?;
+    let said =
+        unsafe { ffi::bog_nack_read(data.as_ptr(), data.len(), list.as_mut_ptr(), list.len()) };
+    let [listed, ..] = said.result()?;
     Ok(listed as usize)
 }
 
@@ -65,8 +61,8 @@ pub fn read(data: &[u8], list: &mut [u16]) -> Result<usize, Refusal> {
 /// 16.
 pub fn add(store: &mut [u8], number: u16) -> Result<(), Refusal> {
     // SAFETY: the call reads and writes the store alone and keeps nothing of it.
-    unsafe { bog_nack_add(store.as_mut_ptr(), store.len(), number) }
-        .answer()
+    unsafe { ffi::bog_nack_add(store.as_mut_ptr(), store.len(), number) }
+        .result()
         .map(|_| ())
 }
 
@@ -90,8 +86,9 @@ pub fn add(store: &mut [u8], number: u16) -> Result<(), Refusal> {
 /// In this order: 16; 15, in bytes.
 pub fn write(store: &[u8], out: &mut [u8]) -> Result<usize, Refusal> {
     // SAFETY: the call reads the store and writes the buffer, which do not overlap, and keeps nothing of either.
-    let said = unsafe { bog_nack_write(store.as_ptr(), store.len(), out.as_mut_ptr(), out.len()) };
-    let [written, ..] = said.answer()?;
+    let said =
+        unsafe { ffi::bog_nack_write(store.as_ptr(), store.len(), out.as_mut_ptr(), out.len()) };
+    let [written, ..] = said.result()?;
     Ok(written as usize)
 }
 

@@ -1,17 +1,11 @@
-//! What the calls of `include/bogslipper.h` say, and the way from there to a `Result`.
+//! From what a call says to a `Result`.
 
+use crate::ffi::Said;
 use crate::Refusal;
-
-/// An answer (number 0) or a numbered refusal, and the values of either.
-#[repr(C)]
-pub(crate) struct Said {
-    number: u64,
-    values: [u64; 8],
-}
 
 impl Said {
     /// The answer's values. They fit the types that the callers of this crate get: the library's contracts bound them.
-    pub(crate) fn answer(self) -> Result<[u64; 8], Refusal> {
+    pub(crate) fn result(self) -> Result<[u64; 8], Refusal> {
         match self.number {
             0 => Ok(self.values),
             number => Err(Refusal::new(number, self.values)),

@@ -7,24 +7,9 @@ use std::error::Error;
 use std::fmt;
 use std::iter::FusedIterator;
 
-use crate::said::{needed, Said};
+use crate::ffi;
+use crate::said::needed;
 use crate::Refusal;
-
-extern "C" {
-    fn bog_twcc_read(block: *const u8, n: usize, list: *mut i32, list_n: usize) -> Said;
-    fn bog_twcc_write(
-        base: u16,
-        time: u32,
-        feedback: u8,
-        list: *const i32,
-        list_n: usize,
-        limited: bool,
-        limit: u64,
-        out: *mut u8,
-        out_n: usize,
-    ) -> Said;
-    fn bog_arrival(time: u32, delta: i16) -> Said;
-}
 
 /// The largest reference time, in units of 64 ms.
 ///
@@ -182,8 +167,9 @@ pub struct TwccHeader {
 /// In this order: 1, fewer than eight bytes; 15, in list places.
 pub fn read(block: &[u8], list: &mut [i32]) -> Result<TwccHeader, Refusal> {
     // SAFETY: the call reads the block and writes the list, which do not overlap, and keeps nothing of either.
-    let said = unsafe { bog_twcc_read(block.as_ptr(), block.len(), list.as_mut_ptr(), list.len()) };
-    let [base, status_count, reference_time, feedback, listed, ..] = said.answer()?;
+    let said =
+        unsafe { ffi::bog_twcc_read(block.as_ptr(), block.len(), list.as_mut_ptr(), list.len()) };
+    let [base, status_count, reference_time, feedback, listed, ..] = said.result()?;
     Ok(TwccHeader {
         base: base as u16,
         status_count: status_count as u16,
@@ -238,7 +224,7 @@ pub fn write(
 ) -> Result<TwccWritten, Refusal> {
     // SAFETY: the call reads the list and writes the buffer, which do not overlap, and keeps nothing of either.
     let said = unsafe {
-        bog_twcc_write(
+        ffi::bog_twcc_write(
             base,
             reference_time,
             feedback,
@@ -250,7 +236,7 @@ pub fn write(
             out.len(),
         )
     };
-    let [bytes, taken, ..] = said.answer()?;
+    let [bytes, taken, ..] = said.result()?;
     Ok(TwccWritten {
         bytes: bytes as usize,
         taken: taken as usize,
@@ -271,7 +257,7 @@ pub fn write(
 /// 10, reference time above 16,777,215.
 pub fn arrival(reference_time: u32, delta: i16) -> Result<i64, Refusal> {
     // SAFETY: the call is lent no memory.
-    let [tick, ..] = unsafe { bog_arrival(reference_time, delta) }.answer()?;
+    let [tick, ..] = unsafe { ffi::bog_arrival(reference_time, delta) }.result()?;
     Ok(tick as i64)
 }
 

@@ -4,18 +4,8 @@
 ///
 /// A field read alone needs the header's four bytes and looks at nothing else.
 pub mod parser {
-    use crate::said::Said;
+    use crate::ffi;
     use crate::Refusal;
-
-    extern "C" {
-        fn bog_version(data: *const u8, n: usize) -> Said;
-        fn bog_padding_bit(data: *const u8, n: usize) -> Said;
-        fn bog_count(data: *const u8, n: usize) -> Said;
-        fn bog_packet_type(data: *const u8, n: usize) -> Said;
-        fn bog_length(data: *const u8, n: usize) -> Said;
-        fn bog_padding(data: *const u8, n: usize) -> Said;
-        fn bog_check_packet(data: *const u8, n: usize, least: u64, packet_type: u8) -> Said;
-    }
 
     /// The version, the top two bits of the first byte.
     ///
@@ -31,7 +21,7 @@ pub mod parser {
     #[inline]
     pub fn parse_version(packet: &[u8]) -> Result<u8, Refusal> {
         // SAFETY: the call reads the slice alone and keeps nothing of it; so do the calls below.
-        let [version, ..] = unsafe { bog_version(packet.as_ptr(), packet.len()) }.answer()?;
+        let [version, ..] = unsafe { ffi::bog_version(packet.as_ptr(), packet.len()) }.result()?;
         Ok(version as u8)
     }
 
@@ -49,7 +39,7 @@ pub mod parser {
     #[inline]
     pub fn parse_padding_bit(packet: &[u8]) -> Result<bool, Refusal> {
         // SAFETY: as in `parse_version`.
-        let [bit, ..] = unsafe { bog_padding_bit(packet.as_ptr(), packet.len()) }.answer()?;
+        let [bit, ..] = unsafe { ffi::bog_padding_bit(packet.as_ptr(), packet.len()) }.result()?;
         Ok(bit == 1)
     }
 
@@ -67,7 +57,7 @@ pub mod parser {
     #[inline]
     pub fn parse_count(packet: &[u8]) -> Result<u8, Refusal> {
         // SAFETY: as in `parse_version`.
-        let [count, ..] = unsafe { bog_count(packet.as_ptr(), packet.len()) }.answer()?;
+        let [count, ..] = unsafe { ffi::bog_count(packet.as_ptr(), packet.len()) }.result()?;
         Ok(count as u8)
     }
 
@@ -85,7 +75,7 @@ pub mod parser {
     #[inline]
     pub fn parse_packet_type(packet: &[u8]) -> Result<u8, Refusal> {
         // SAFETY: as in `parse_version`.
-        let [kind, ..] = unsafe { bog_packet_type(packet.as_ptr(), packet.len()) }.answer()?;
+        let [kind, ..] = unsafe { ffi::bog_packet_type(packet.as_ptr(), packet.len()) }.result()?;
         Ok(kind as u8)
     }
 
@@ -103,7 +93,7 @@ pub mod parser {
     #[inline]
     pub fn parse_length(packet: &[u8]) -> Result<usize, Refusal> {
         // SAFETY: as in `parse_version`.
-        let [length, ..] = unsafe { bog_length(packet.as_ptr(), packet.len()) }.answer()?;
+        let [length, ..] = unsafe { ffi::bog_length(packet.as_ptr(), packet.len()) }.result()?;
         Ok(length as usize)
     }
 
@@ -124,7 +114,8 @@ pub mod parser {
     #[inline]
     pub fn parse_padding(packet: &[u8]) -> Result<Option<u8>, Refusal> {
         // SAFETY: as in `parse_version`.
-        let [set, count, ..] = unsafe { bog_padding(packet.as_ptr(), packet.len()) }.answer()?;
+        let [set, count, ..] =
+            unsafe { ffi::bog_padding(packet.as_ptr(), packet.len()) }.result()?;
         Ok((set == 1).then_some(count as u8))
     }
 
@@ -149,8 +140,8 @@ pub mod parser {
     #[inline]
     pub fn check_packet(packet: &[u8], least: usize, packet_type: u8) -> Result<(), Refusal> {
         // SAFETY: as in `parse_version`.
-        unsafe { bog_check_packet(packet.as_ptr(), packet.len(), least as u64, packet_type) }
-            .answer()
+        unsafe { ffi::bog_check_packet(packet.as_ptr(), packet.len(), least as u64, packet_type) }
+            .result()
             .map(|_| ())
     }
 }

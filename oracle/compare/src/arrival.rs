@@ -1,8 +1,8 @@
 //! The arrival of a received entry: the rule of docs/RULES.md alone, for the crate has only a comment on it.
 
-use ours::Said;
+use ours::{Expect, Said};
 
-use crate::case::{Book, Effort, Seen};
+use crate::case::{Book, Effort};
 use crate::record::Case;
 
 pub fn compare(effort: &Effort) -> Vec<Book> {
@@ -37,10 +37,7 @@ fn enter(book: &mut Book, time: u32, delta: i16) {
         let tick = i64::from(time) * 256 + i64::from(delta);
         Said::answer(&[tick as u64])
     };
-    let seen = Seen {
-        said: ours::arrival(time, delta),
-        wrong_place: None,
-    };
+    let said = ours::arrival(time, delta);
     let numbers = [time.into(), delta.into()];
-    book.enter(expected, seen, Case::default().numbers(&numbers));
+    book.enter(expected, said, &[], Case::default().numbers(&numbers));
 }

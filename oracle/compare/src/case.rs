@@ -1,12 +1,15 @@
 //! What every part uses: books of cases and disagreements, lent memory with guards, the crate's words in ours.
 
+use std::borrow::Cow;
 use std::collections::BTreeMap;
 use std::fmt;
+use std::ops::Not;
 use std::panic::{catch_unwind, set_hook, take_hook, AssertUnwindSafe};
 
-use ours::{Random, Said};
+use ours::{Expect, Random, Said};
 use rtcp_types::RtcpParseError;
 
+use crate::control::{Controls, Spot};
 use crate::record::{Case, Chapter, Sample};
 
 /// How much a run does, from which seed, and whether it keeps a sample of its cases.
@@ -68,8 +71,20 @@ impl From<Said> for Expected {
 
 /// What one call of ours did: its words, and the first wrong place of the lent memory.
 pub struct Seen {
-    pub said: Said,
-    pub wrong_place: Option<isize>,
+    said: Said,
+    wrong_place: Option<isize>,
+}
+
+impl Seen {
+    pub fn new(said: Said, memory: &[&dyn Left]) -> Self {
+        let wrong_place = memory.iter().find_map(|part| part.wrong_place());
+        Seen { said, wrong_place }
+    }
+
+    /// Whether it is all that is expected.
+    pub fn is(&self, expected: &Expected) -> bool {
+        self.said == expected.said && self.wrong_place.is_none()
+    }
 }
 
 /// The book of one call, or of a comparison of several.
@@ -79,6 +94,7 @@ pub struct Book {
     disagreements: u64,
     differences: BTreeMap<&'static str, u64>,
     smallest: Vec<(usize, String)>,
+    controls: Controls,
     sample: Option<Sample>,
 }
 
@@ -97,13 +113,26 @@ impl Book {
             disagreements: 0,
             differences: BTreeMap::new(),
             smallest: Vec::new(),
+            controls: Controls::new(),
             sample: None,
         }
     }
 
-    /// Enters one case.
-    pub fn enter(&mut self, expected: impl Into<Expected>, seen: Seen, case: Case) {
+    /// Enters one case: what our call said, and each part of memory that it was lent.
+    pub fn enter(
+        &mut self,
+        expected: impl Into<Expected>,
+        said: Said,
+        memory: &[&dyn Left],
+        case: Case,
+    ) {
         let expected = expected.into();
+        assert_eq!(
+            memory.len(),
+            case.parts(),
+            "{}: memory that nobody looks at",
+            self.call
+        );
         self.cases += 1;
         if let Some(name) = expected.difference {
             *self.differences.entry(name).or_default() += 1;
@@ -111,7 +140,9 @@ impl Book {
         if let Some(sample) = &mut self.sample {
             sample.offer(self.call, &expected, &case);
         }
-        if seen.said == expected.said && seen.wrong_place.is_none() {
+        let seen = Seen::new(said, memory);
+        if seen.is(&expected) {
+            self.controls.show(&expected, memory);
             return;
         }
         self.disagreements += 1;
@@ -140,6 +171,19 @@ impl Book {
 
     pub fn disagreements(&self) -> u64 {
         self.disagreements
+    }
+
+    /// How many wrong outcomes were shown on purpose and noticed.
+    pub fn caught(&self) -> u64 {
+        self.controls.caught()
+    }
+
+    /// The wrong outcomes that were not noticed.
+    pub fn missed(&self) -> Vec<String> {
+        let missed = self.controls.missed().iter();
+        missed
+            .map(|what| format!("{}: {what}", self.call))
+            .collect()
     }
 
     /// Enters cases of a table, all of which a recording keeps.
@@ -182,7 +226,8 @@ impl fmt::Display for Book {
     }
 }
 
-fn words(said: &Said) -> String {
+/// What was said, for a reader.
+pub fn words(said: &Said) -> String {
     let kind = match said.number {
         0 => "answer".to_string(),
         number => format!("refusal {number}"),
@@ -201,7 +246,7 @@ fn shortened(mut text: String) -> String {
 }
 
 /// An element of lent memory that can be filled with anything.
-pub trait Element: Copy + PartialEq {
+pub trait Element: Copy + PartialEq + Not<Output = Self> {
     fn any(random: &mut Random) -> Self;
 }
 
@@ -224,6 +269,7 @@ impl Element for i32 {
 }
 
 /// Memory to lend: a part in the middle, with guards of random contents on both sides.
+#[derive(Clone)]
 pub struct Lent<T> {
     front: usize,
     length: usize,
@@ -232,6 +278,16 @@ pub struct Lent<T> {
 }
 
 impl<T: Element> Lent<T> {
+    /// A part without guards.
+    pub fn bare(contents: &[T]) -> Self {
+        Lent {
+            front: 0,
+            length: contents.len(),
+            before: contents.to_vec(),
+            after: contents.to_vec(),
+        }
+    }
+
     /// A part that holds the contents given.
     pub fn holding(random: &mut Random, contents: &[T]) -> Self {
         let front = 16 + random.below(8) as usize;
@@ -288,9 +344,53 @@ impl<T: Element> Lent<T> {
         place.map(|place| place as isize - self.front as isize)
     }
 
-    /// The first place that changed.
-    pub fn changed_place(&self) -> Option<isize> {
-        self.wrong_place(&[])
+    /// After an answer that had to be written to its front.
+    pub fn after<'a>(&'a self, answer: &'a [T]) -> After<'a, T> {
+        let lent = Cow::Borrowed(self);
+        After { lent, answer }
+    }
+
+    /// After a call that had to leave it alone.
+    pub fn kept(&self) -> After<'_, T> {
+        self.after(&[])
+    }
+}
+
+/// Memory after a call, beside what it has to hold.
+pub trait Left {
+    /// The first wrong place, counted from the part's start.
+    fn wrong_place(&self) -> Option<isize>;
+
+    /// The same with another element at a spot, where it has that spot.
+    fn spoilt(&self, spot: Spot) -> Option<Box<dyn Left + '_>>;
+}
+
+/// Lent memory that has to hold an answer and behind it what it held before.
+pub struct After<'a, T: Element> {
+    lent: Cow<'a, Lent<T>>,
+    answer: &'a [T],
+}
+
+impl<T: Element> Left for After<'_, T> {
+    fn wrong_place(&self) -> Option<isize> {
+        self.lent.wrong_place(self.answer)
+    }
+
+    fn spoilt(&self, spot: Spot) -> Option<Box<dyn Left + '_>> {
+        let Lent { front, length, .. } = *self.lent;
+        let answered = front + self.answer.len();
+        let end = front + length;
+        let (from, to) = match spot {
+            Spot::Before => (0, front),
+            Spot::Answer => (front, answered),
+            Spot::Rest => (answered, end),
+            Spot::Behind => (end, self.lent.after.len()),
+        };
+        let place = to.checked_sub(1).filter(|place| from <= *place)?;
+        let mut lent = self.lent.clone().into_owned();
+        lent.after[place] = !lent.after[place];
+        let lent = Cow::Owned(lent);
+        Some(Box::new(After { lent, ..*self }))
     }
 }
 
@@ -302,14 +402,14 @@ pub fn any_bytes(random: &mut Random, length: usize) -> Vec<u8> {
     }
 }
 
-/// A call of ours that only reads: what it says, and whether its input stayed.
-pub fn read_only(random: &mut Random, data: &[u8], call: impl FnOnce(&[u8]) -> Said) -> Seen {
+/// A call of ours that only reads: what it says, and its input after it.
+pub fn read_only(
+    random: &mut Random,
+    data: &[u8],
+    call: impl FnOnce(&[u8]) -> Said,
+) -> (Said, Lent<u8>) {
     let lent = Lent::holding(random, data);
-    let said = call(lent.part());
-    Seen {
-        said,
-        wrong_place: lent.changed_place(),
-    }
+    (call(lent.part()), lent)
 }
 
 /// The Rust's result, or nothing where it panics; its panic is an outcome to look at, not a text to print.

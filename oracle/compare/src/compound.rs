@@ -1,10 +1,10 @@
 //! Compounds, packets of any type, the walk from any offset and the plain packet writer.
 
-use ours::{Random, Said};
+use ours::{Expect, Random, Said};
 use rtcp_types::prelude::*;
 use rtcp_types::{Compound, Packet, RtcpWriteError, Unknown, UnknownBuilder};
 
-use crate::case::{any_bytes, read_only, refused_reading, Book, Effort, Expected, Lent, Seen};
+use crate::case::{any_bytes, read_only, refused_reading, Book, Effort, Expected, Lent};
 use crate::record::{Case, Memory};
 use crate::traffic;
 
@@ -43,12 +43,13 @@ impl Readers {
     /// All calls on the same data.
     fn read(&mut self, data: &[u8]) {
         let random = &mut self.random;
-        let seen = read_only(random, data, ours::compound_parse);
+        let case = Case::reading(data);
+        let (said, lent) = read_only(random, data, ours::compound_parse);
         let expected = expected_compound(data);
-        self.compound.enter(expected, seen, Case::reading(data));
-        let seen = read_only(random, data, ours::unknown_parse);
+        self.compound.enter(expected, said, &[&lent.kept()], case);
+        let (said, lent) = read_only(random, data, ours::unknown_parse);
         let expected = expected_unknown(data);
-        self.unknown.enter(expected, seen, Case::reading(data));
+        self.unknown.enter(expected, said, &[&lent.kept()], case);
         self.walk(data);
     }
 
@@ -69,29 +70,30 @@ impl Readers {
                 _ => return,
             };
             over = expected.number != 0;
-            let seen = read_only(&mut self.random, data, |data| ours::walk_step(data, offset));
-            let numbers = [offset.into()];
-            self.walk
-                .enter(expected, seen, Case::reading(data).numbers(&numbers));
+            self.walk_on(data, offset, expected);
             offset = expected.values[1];
         }
         if !over {
-            let seen = read_only(&mut self.random, data, |data| ours::walk_step(data, offset));
-            let expected = Said::answer(&[1, data.len() as u64]);
-            let numbers = [offset.into()];
-            self.walk
-                .enter(expected, seen, Case::reading(data).numbers(&numbers));
+            self.walk_on(data, offset, Said::answer(&[1, data.len() as u64]));
         }
+    }
+
+    /// One step of the walk from 0.
+    fn walk_on(&mut self, data: &[u8], offset: u64, expected: Said) {
+        let (said, lent) = read_only(&mut self.random, data, |data| ours::walk_step(data, offset));
+        let numbers = [offset.into()];
+        let case = Case::reading(data).numbers(&numbers);
+        self.walk.enter(expected, said, &[&lent.kept()], case);
     }
 
     /// One step from any offset.
     fn step(&mut self, data: &[u8], offset: u64) {
-        let seen = read_only(&mut self.random, data, |data| ours::walk_step(data, offset));
+        let (said, lent) = read_only(&mut self.random, data, |data| ours::walk_step(data, offset));
         let expected = expected_step(data, offset);
         let kind = ["packet", "over"][expected.values[0].min(1) as usize];
         let numbers = [offset.into()];
         let case = Case::reading(data).numbers(&numbers).kind(kind);
-        self.step.enter(expected, seen, case);
+        self.step.enter(expected, said, &[&lent.kept()], case);
     }
 
     /// One step from every offset inside, some past the end, and some near the largest.
@@ -155,11 +157,12 @@ fn read_fixed_compounds(readers: &mut Readers) {
         (&[0x80, 0xCB, 0, 0, 0x80], Said::refusal(1, &[8, 5])),
         (&[0x00, 0xCB, 0, 1], Said::refusal(2, &[0])),
     ];
-    for (data, said) in table {
-        let seen = read_only(&mut readers.random, data, ours::compound_parse);
+    for (data, expected) in table {
+        let (said, lent) = read_only(&mut readers.random, data, ours::compound_parse);
+        let case = Case::reading(data);
         readers
             .compound
-            .table(|book| book.enter(said, seen, Case::reading(data)));
+            .table(|book| book.enter(expected, said, &[&lent.kept()], case));
         readers.read(data);
         readers.step_from_everywhere(data);
     }
@@ -345,10 +348,9 @@ impl Plain {
         );
         let expected = self.expected(bytes, room);
         let answer = if expected.is_answer() { bytes } else { &[] };
-        let wrong_place = body.changed_place().or(out.wrong_place(answer));
-        let seen = Seen { said, wrong_place };
         let numbers = self.numbers();
-        book.enter(expected, seen, self.case(&numbers, &out, answer));
+        let case = self.case(&numbers, &out, answer);
+        book.enter(expected, said, &[&body.kept(), &out.after(answer)], case);
     }
 
     /// All rooms that matter for this packet.
@@ -424,24 +426,24 @@ fn write_first_of_several(book: &mut Book, random: &mut Random) {
             padding: if fault(1) { 6 } else { 8 },
         };
         let room: usize = if fault(3) { 11 } else { 20 };
-        let (said, bytes) = match faults {
+        let (expected, bytes) = match faults {
             _ if fault(0) => (Said::refusal(8, &[32]), vec![]),
             _ if fault(1) => (Said::refusal(9, &[6]), vec![]),
             _ if fault(2) => (Said::refusal(11, &[7]), vec![]),
             _ if fault(3) => (Said::refusal(15, &[20, 11]), vec![]),
             _ => (Said::answer(&[20]), plain.bytes()),
         };
+        let body = Lent::bare(&plain.body);
         let mut out = Lent::anything(random, room);
-        let seen = Seen {
-            said: ours::unknown_write(
-                plain.count,
-                plain.kind,
-                &plain.body,
-                plain.padding,
-                out.part_mut(),
-            ),
-            wrong_place: out.wrong_place(&bytes),
-        };
-        book.enter(said, seen, plain.case(&plain.numbers(), &out, &bytes));
+        let said = ours::unknown_write(
+            plain.count,
+            plain.kind,
+            body.part(),
+            plain.padding,
+            out.part_mut(),
+        );
+        let numbers = plain.numbers();
+        let case = plain.case(&numbers, &out, &bytes);
+        book.enter(expected, said, &[&body.kept(), &out.after(&bytes)], case);
     }
 }

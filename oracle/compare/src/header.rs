@@ -1,6 +1,6 @@
 //! The header fields, each read alone, and `check_packet`, against the crate's parsing helpers.
 
-use ours::{Random, Said};
+use ours::{Expect, Random, Said};
 use rtcp_types::utils::parser;
 use rtcp_types::{RtcpPacket, RtcpParseError};
 
@@ -56,8 +56,9 @@ impl Field {
         let mut book = effort.book(self.call);
         let random = &mut effort.random();
         for_short_inputs(effort, |data| {
-            let seen = read_only(random, data, self.ours);
-            book.enter(self.expected(data), seen, Case::reading(data));
+            let (said, lent) = read_only(random, data, self.ours);
+            let expected = self.expected(data);
+            book.enter(expected, said, &[&lent.kept()], Case::reading(data));
         });
         book
     }
@@ -115,10 +116,11 @@ fn compare_padding(effort: &Effort) -> Book {
     let mut book = effort.book("padding");
     let random = &mut effort.random();
     let mut visit = |random: &mut Random, data: &[u8]| {
-        let seen = read_only(random, data, ours::padding);
+        let (said, lent) = read_only(random, data, ours::padding);
         let expected = expected_padding(data);
         let kind = ["clear", "set"][expected.said.values[0].min(1) as usize];
-        book.enter(expected, seen, Case::reading(data).kind(kind));
+        let case = Case::reading(data).kind(kind);
+        book.enter(expected, said, &[&lent.kept()], case);
     };
     for_short_inputs(effort, |data| visit(random, data));
     for words in (0..=40).chain([255, 256, 4_095, 65_535]) {
@@ -194,15 +196,12 @@ const CHECKS: [Check; 15] = [
 
 impl Check {
     fn enter(&self, book: &mut Book, random: &mut Random, data: &[u8]) {
-        let seen = read_only(random, data, |data| {
+        let (said, lent) = read_only(random, data, |data| {
             ours::check_packet(data, self.least, self.kind)
         });
         let numbers = [self.least.into(), self.kind.into()];
-        book.enter(
-            self.expected(data),
-            seen,
-            Case::reading(data).numbers(&numbers),
-        );
+        let case = Case::reading(data).numbers(&numbers);
+        book.enter(self.expected(data), said, &[&lent.kept()], case);
     }
 
     fn expected(&self, data: &[u8]) -> Expected {
@@ -309,9 +308,10 @@ fn check_first_of_several(book: &mut Book, random: &mut Random) {
         (&[0xA0, 200, 0, 0, 0], 4, 200, Said::refusal(4, &[4, 5])),
         (&[0xA0, 200, 0, 0], 4, 200, Said::refusal(5, &[])),
     ];
-    for (data, least, kind, said) in table {
-        let seen = read_only(random, data, |data| ours::check_packet(data, least, kind));
+    for (data, least, kind, expected) in table {
+        let (said, lent) = read_only(random, data, |data| ours::check_packet(data, least, kind));
         let numbers = [least.into(), kind.into()];
-        book.enter(said, seen, Case::reading(data).numbers(&numbers));
+        let case = Case::reading(data).numbers(&numbers);
+        book.enter(expected, said, &[&lent.kept()], case);
     }
 }

@@ -3,6 +3,7 @@
 mod arrival;
 mod case;
 mod compound;
+mod control;
 mod header;
 mod line;
 mod nack;
@@ -118,13 +119,22 @@ fn main() -> ExitCode {
     let disagreements: u64 = books.iter().map(Book::disagreements).sum();
     let seconds = start.elapsed().as_secs_f64();
     println!("total            {cases:>10} {disagreements:>13}  {seconds:.1} s");
+    let caught: u64 = books.iter().map(Book::caught).sum();
+    let missed: Vec<String> = books.iter().flat_map(Book::missed).collect();
+    println!(
+        "controls: {caught} outcomes wrong on purpose were noticed, {} were not",
+        missed.len()
+    );
+    for control in &missed {
+        println!("    not noticed: {control}");
+    }
     if let Some(folder) = &wishes.record {
         if let Err(error) = record(folder, &books, wishes.most) {
             eprintln!("compare: {folder} can't be written to: {error}");
             return ExitCode::from(2);
         }
     }
-    if disagreements == 0 {
+    if disagreements == 0 && missed.is_empty() {
         ExitCode::SUCCESS
     } else {
         ExitCode::FAILURE

@@ -2,11 +2,11 @@
 
 use std::collections::BTreeSet;
 
-use ours::{Random, Said};
+use ours::{Expect, Random, Said};
 use rtcp_types::prelude::*;
 use rtcp_types::{Nack, NackBuilder};
 
-use crate::case::{Book, Effort, Lent, Seen};
+use crate::case::{Book, Effort, Lent};
 use crate::record::{Case, Memory};
 use crate::traffic;
 
@@ -64,16 +64,13 @@ fn compare_add(effort: &Effort) -> Book {
     for length in [0, 1, STORE - 1, STORE + 1, 2 * STORE] {
         for number in [0, 7, 8, 65_535] {
             let mut store = store_of_length(random, length);
-            let seen = Seen {
-                said: ours::nack_add(store.part_mut(), number),
-                wrong_place: store.changed_place(),
-            };
+            let said = ours::nack_add(store.part_mut(), number);
             let expected = Said::refusal(16, &[length as u64]);
             let numbers = [number.into()];
             let case = Case::default()
                 .numbers(&numbers)
                 .lent(Memory::Store(store.was()), Memory::Store(&[]));
-            book.enter(expected, seen, case);
+            book.enter(expected, said, &[&store.kept()], case);
         }
     }
     book
@@ -89,16 +86,12 @@ fn add_to(book: &mut Book, random: &mut Random, held: &[u16], number: u16) {
     let said = ours::nack_add(store.part_mut(), number);
     let with_it: Vec<u16> = held.iter().copied().chain([number]).collect();
     let answer = store_of(&with_it);
-    let seen = Seen {
-        said,
-        wrong_place: store.wrong_place(&answer),
-    };
     let numbers = [number.into()];
     let case = Case::default()
         .numbers(&numbers)
         .lent(Memory::Store(store.was()), Memory::Store(&answer))
         .kind(if held.contains(&number) { "held" } else { "" });
-    book.enter(Said::answer(&[]), seen, case);
+    book.enter(Said::answer(&[]), said, &[&store.after(&answer)], case);
 }
 
 fn compare_read(effort: &Effort) -> Book {
@@ -178,12 +171,8 @@ fn read(book: &mut Book, random: &mut Random, data: &[u8], room: usize) {
     } else {
         (Said::answer(&[count]), &numbers)
     };
-    let seen = Seen {
-        said,
-        wrong_place: lent.changed_place().or(list.wrong_place(answer)),
-    };
     let case = Case::reading(data).lent(Memory::Shorts(list.was()), Memory::Shorts(answer));
-    book.enter(expected, seen, case);
+    book.enter(expected, said, &[&lent.kept(), &list.after(answer)], case);
 }
 
 fn compare_write(effort: &Effort) -> Book {
@@ -230,15 +219,12 @@ fn compare_write(effort: &Effort) -> Book {
         for room in [0, 4, 20_000] {
             let store = store_of_length(random, length);
             let mut out: Lent<u8> = Lent::anything(random, room);
-            let seen = Seen {
-                said: ours::nack_write(store.part(), out.part_mut()),
-                wrong_place: store.changed_place().or(out.changed_place()),
-            };
+            let said = ours::nack_write(store.part(), out.part_mut());
             let expected = Said::refusal(16, &[length as u64]);
             let case = Case::default()
                 .read(Memory::Store(store.was()))
                 .lent(Memory::Bytes(out.was()), Memory::Bytes(&[]));
-            book.enter(expected, seen, case);
+            book.enter(expected, said, &[&store.kept(), &out.kept()], case);
         }
     }
     book
@@ -312,12 +298,8 @@ fn write(book: &mut Book, random: &mut Random, numbers: &[u16], bytes: &[u8], ro
     } else {
         (Said::answer(&[needed]), bytes)
     };
-    let seen = Seen {
-        said,
-        wrong_place: store.changed_place().or(out.wrong_place(answer)),
-    };
     let case = Case::default()
         .read(Memory::Store(store.was()))
         .lent(Memory::Bytes(out.was()), Memory::Bytes(answer));
-    book.enter(expected, seen, case);
+    book.enter(expected, said, &[&store.kept(), &out.after(answer)], case);
 }

@@ -1,10 +1,10 @@
 //! Reading a TWCC block into a list of words, against `Twcc` and its iterator over packets.
 
-use ours::{Random, Said};
+use ours::{Expect, Random, Said};
 use rtcp_types::prelude::*;
 use rtcp_types::{RtcpParseError, Twcc, TwccPacketStatus};
 
-use crate::case::{refused_reading, Book, Effort, Lent, Seen};
+use crate::case::{refused_reading, Book, Effort, Left, Lent};
 use crate::record::{Case, Memory};
 use crate::traffic;
 
@@ -94,11 +94,9 @@ impl Reader {
         let (expected, words) = expected_read(block, list.was().len());
         let lent = Lent::holding(&mut self.random, block);
         let said = ours::twcc_read(lent.part(), list.part_mut());
-        let seen = Seen {
-            said,
-            wrong_place: lent.changed_place().or(list.wrong_place(&words)),
-        };
-        self.book.enter(expected, seen, case(block, &list, &words));
+        let memory: [&dyn Left; 2] = [&lent.kept(), &list.after(&words)];
+        let case = case(block, &list, &words);
+        self.book.enter(expected, said, &memory, case);
     }
 
     /// The fixed examples, with their own words as the expectation.
@@ -110,13 +108,13 @@ impl Reader {
             (&[0, 5, 0, 0, 0, 0, 0, 0], &[]),
         ];
         for (block, words) in table {
+            let lent = Lent::bare(block);
             let mut list = Lent::anything(&mut self.random, 4);
-            let seen = Seen {
-                said: ours::twcc_read(block, list.part_mut()),
-                wrong_place: list.wrong_place(words),
-            };
+            let said = ours::twcc_read(lent.part(), list.part_mut());
             let expected = Said::answer(&[5, block[3].into(), 0, 0, words.len() as u64]);
-            self.book.enter(expected, seen, case(block, &list, words));
+            let memory: [&dyn Left; 2] = [&lent.kept(), &list.after(words)];
+            let case = case(block, &list, words);
+            self.book.enter(expected, said, &memory, case);
             self.read_rooms(block);
         }
     }

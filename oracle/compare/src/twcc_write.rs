@@ -1,10 +1,10 @@
 //! Writing TWCC blocks, against `TwccBuilder`, and whole lists cut into blocks and read back.
 
-use ours::{Random, Said};
+use ours::{Expect, Random, Said};
 use rtcp_types::prelude::*;
 use rtcp_types::{RtcpWriteError, TwccBuilder, TwccPacketStatus};
 
-use crate::case::{Book, Effort, Expected, Lent, Seen};
+use crate::case::{Book, Effort, Expected, Left, Lent};
 use crate::record::{Case, Memory};
 use crate::twcc_read::NOT_RECEIVED;
 
@@ -200,9 +200,7 @@ impl Writer {
             true => &block.bytes[..],
             false => &[],
         };
-        let wrong_place = call.list.changed_place().or(out.wrong_place(answer));
         let bytes = &out.part()[..room.min(block.bytes.len())];
-        let seen = Seen { said, wrong_place };
         let kind = match order.limit {
             _ if block.taken < list.len() => "cut",
             Some(_) => "limited",
@@ -210,7 +208,8 @@ impl Writer {
         };
         let numbers = order.numbers();
         let case = case(&numbers, list, &out, answer).kind(kind);
-        self.write.enter(expected, seen, case);
+        let memory: [&dyn Left; 2] = [&call.list.kept(), &out.after(answer)];
+        self.write.enter(expected, said, &memory, case);
         (said, bytes.to_vec())
     }
 
@@ -276,12 +275,9 @@ impl Writer {
         ];
         for (list, limit, after_base, taken) in table {
             let bytes = [&[0, 1], after_base].concat();
+            let lent = Lent::bare(&list);
             let mut out = Lent::anything(&mut self.random, 30);
-            let said = ours::twcc_write(1, 0, 0, &list, limit, out.part_mut());
-            let seen = Seen {
-                said,
-                wrong_place: out.wrong_place(&bytes),
-            };
+            let said = ours::twcc_write(1, 0, 0, lent.part(), limit, out.part_mut());
             let expected = Said::answer(&[bytes.len() as u64, taken]);
             let order = Order {
                 base: 1,
@@ -290,8 +286,9 @@ impl Writer {
                 limit,
             };
             let numbers = order.numbers();
-            self.write
-                .enter(expected, seen, case(&numbers, &list, &out, &bytes));
+            let case = case(&numbers, &list, &out, &bytes);
+            let memory: [&dyn Left; 2] = [&lent.kept(), &out.after(&bytes)];
+            self.write.enter(expected, said, &memory, case);
         }
     }
 
@@ -319,7 +316,7 @@ impl Writer {
         list[1] = if fault(2) { faulty.2 } else { 5 };
         let limit = if fault(3) { faulty.3 } else { 12 };
         let room = if fault(4) { faulty.4 } else { 12 };
-        let (said, bytes): (Said, &[u8]) = match mixture {
+        let (expected, bytes): (Said, &[u8]) = match mixture {
             _ if fault(0) => (Said::refusal(10, &[time.into()]), &[]),
             _ if fault(1) => (Said::refusal(13, &[list.len() as u64]), &[]),
             _ if fault(2) => (Said::refusal(12, &[1]), &[]),
@@ -330,11 +327,9 @@ impl Writer {
                 &[0, 9, 0, 2, 0xFF, 0xFF, 0xFF, 1, 0xD4, 0, 5, 5],
             ),
         };
+        let lent = Lent::bare(&list);
         let mut out = Lent::anything(&mut self.random, room);
-        let seen = Seen {
-            said: ours::twcc_write(9, time, 1, &list, Some(limit), out.part_mut()),
-            wrong_place: out.wrong_place(bytes),
-        };
+        let said = ours::twcc_write(9, time, 1, lent.part(), Some(limit), out.part_mut());
         let order = Order {
             base: 9,
             time,
@@ -342,8 +337,9 @@ impl Writer {
             limit: Some(limit),
         };
         let numbers = order.numbers();
-        self.write
-            .enter(said, seen, case(&numbers, &list, &out, bytes));
+        let case = case(&numbers, &list, &out, bytes);
+        let memory: [&dyn Left; 2] = [&lent.kept(), &out.after(bytes)];
+        self.write.enter(expected, said, &memory, case);
     }
 
     /// Words out of range at any place of the longest list, before any limit; and lists at the bound.
@@ -528,18 +524,13 @@ impl Writer {
             order.base = order.base.wrapping_add(taken as u16);
             order.feedback = order.feedback.wrapping_add(1);
         }
-        let seen = Seen {
-            said: Said::answer(&[back.len() as u64, sound.into()]),
-            wrong_place: first_difference(&back, list),
-        };
+        let said = Said::answer(&[back.len() as u64, sound.into()]);
         let expected = Said::answer(&[list.len() as u64, 1]);
         let numbers = order.numbers();
         let case = Case::default().numbers(&numbers).read(Memory::Words(list));
-        self.whole.enter(expected, seen, case);
+        let back = Lent::bare(&back);
+        let as_given = &list[..back.part().len()];
+        self.whole
+            .enter(expected, said, &[&back.after(as_given)], case);
     }
-}
-
-fn first_difference(back: &[i32], list: &[i32]) -> Option<isize> {
-    let place = back.iter().zip(list).position(|(is, was)| is != was);
-    place.map(|place| place as isize)
 }
