@@ -111,6 +111,7 @@ fn a_line_that_cannot_be_read_is_named() {
         ),
         ("more_behind_it", format!("{line} 00")),
         ("cut", line[..line.len() - 2].to_string()),
+        ("no_outcome", line[..line.find(" 9").unwrap()].to_string()),
         (
             "nothing_to_repeat",
             line.replacen("= ", "= *000001000001 ", 1),
