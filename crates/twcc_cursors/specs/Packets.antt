@@ -1,11 +1,12 @@
 -- The packets of a block one by one, and what walking them gives.
-use Prim.Native.Nat.{ℕ, suc, _+_, _%_}
+use Prim.Native.Nat.{ℕ, suc, _+_}
 use mathlib.Core.Path.{_≡_}
 use mathlib.Core.List.{List, [], _∷_}
 use mathlib.Core.Bool.{cond}
 use lib.Dec.{ltb}
 use lib.IntN.{ℤ}
 use lib.ListN.{length, getD, drop}
+use Rattle.kinds.specs.Seq.{later}
 use Rattle.refusal.specs.Outcome.{Outcome, gave, refuse}
 use Rattle.refusal.specs.Number.{no}
 use Rattle.twcc.specs.Chunks.{standsFor}
@@ -46,7 +47,7 @@ symbolHere p = getD (standsFor (p .chunk)) (p .place) 0
 abbrev pub packetsAfter : List ℕ → Packets → Packets
 packetsAfter block p =
     record {
-      number = record { 0 = (p .number .0 + 1) % 65536 };
+      number = record { 0 = later (p .number .0) 1 };
       chunk = p .chunk;
       place = p .place + 1;
       end = p .end;
@@ -75,4 +76,4 @@ nextPacket block p =
 abbrev pub Walks : List ℕ → ℕ → ℕ → Packets → List ℤ → Type 0
 Walks block base k p [] = nextPacket block p ≡ packet.Over
 Walks block base k p (w ∷ ws) =
-    (next : Packets) × ((nextPacket block p ≡ packet.Packet (record { 0 = (base + k) % 65536 }) w next) × Walks block base (suc k) next ws)
+    (next : Packets) × ((nextPacket block p ≡ packet.Packet (record { 0 = later base k }) w next) × Walks block base (suc k) next ws)

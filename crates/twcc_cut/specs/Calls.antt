@@ -1,9 +1,10 @@
 -- The same of the code: calls of `write` and `read` one after the other, of which nothing is known but their promises.
-use Prim.Native.Nat.{ℕ, zero, _+_, _%_, _≤_, _<_}
+use Prim.Native.Nat.{ℕ, zero, _≤_, _<_}
 use mathlib.Core.Path.{_≡_}
 use mathlib.Core.List.{List, [], _∷_, _++_, map}
 use lib.IntN.{ℤ}
 use lib.ListN.{length, take, drop}
+use Rattle.kinds.specs.Seq.{later}
 use Rattle.twcc_plan.specs.Block.{takenOf, sizeOf}
 use Rattle.twcc_read.specs.Promise.{Reads}
 use Rattle.twcc_read.specs.declared.Listed.{Listed}
@@ -39,7 +40,7 @@ pub data Calls : ℕ → List ℤ → List Call → Type 0 where
   one-more : {base : ℕ} {list : List ℤ} {calls : List Call} (c : Call) → zero < length list
       → Wrote base (c .choice .time) (c .choice .feedback) list (c .choice .limit) (c .before) (written.Block (c .used)) (c .after)
       → Reads (blockOf c) (c .room) (reading.Block (c .said)) (c .words)
-      → Calls ((base + c .used .taken) % 65536) (drop (c .used .taken) list) calls
+      → Calls (later base (c .used .taken)) (drop (c .used .taken) list) calls
       → Calls base list (c ∷ calls)
 
 -- what the reader gave, laid end to end

@@ -1,10 +1,11 @@
 -- Cutting a list into blocks, over the definitions of writing and reading: the procedure, and what is asked of it.
-use Prim.Native.Nat.{ℕ, zero, _+_, _%_, _≤_, _<_}
+use Prim.Native.Nat.{ℕ, zero, _≤_, _<_}
 use mathlib.Core.Path.{_≡_}
 use mathlib.Core.List.{List, [], _∷_, _++_}
 use mathlib.Core.Option.{Option}
 use lib.IntN.{ℤ}
 use lib.ListN.{length, drop}
+use Rattle.kinds.specs.Seq.{later}
 use Rattle.twcc.specs.Time.{latest}
 use Rattle.twcc.specs.Chunks.{Below}
 use Rattle.twcc.specs.Block.{baseOf, referenceTime, feedbackCount, listed}
@@ -39,7 +40,7 @@ partOf c base list =
 pub data Cut : ℕ → List ℤ → List Part → Type 0 where
   nothing-left : {base : ℕ} → Cut base [] []
   one-more : {base : ℕ} {list : List ℤ} {parts : List Part} (c : Choice) → zero < length list
-      → Cut ((base + takenOf (c .limit) list) % 65536) (drop (takenOf (c .limit) list) list) parts
+      → Cut (later base (takenOf (c .limit) list)) (drop (takenOf (c .limit) list) list) parts
       → Cut base list (partOf c base list ∷ parts)
 
 abbrev pub AllFit : List Part → Type 0
