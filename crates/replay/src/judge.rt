@@ -9,6 +9,7 @@ use crate::case::parts_of;
 use crate::case::past;
 use crate::hex::unpack;
 use crate::memory;
+use crate::room;
 use exports::Said;
 
 // It does what the line says.
@@ -88,14 +89,8 @@ fn run(
     verdict(numbers_of(case, at.outcome), said, left)
 }
 
-// A case ends with its outcome. The rooms are large enough for all that it can lend.
-fn judge_case(
-    name: &[u8],
-    case: &[u8],
-    bytes: &mut [u8],
-    shorts: &mut [u16],
-    words: &mut [i32],
-) -> u8 {
+// A case ends with its outcome.
+fn judge_case(name: &[u8], case: &[u8]) -> u8 {
     let at = parts_of(case);
     let outcome = at.outcome;
     if outcome.length == 0 {
@@ -104,6 +99,9 @@ fn judge_case(
     if past(outcome) != case.len() {
         return UNREADABLE;
     }
+    let mut bytes = room::for_bytes();
+    let mut shorts = room::for_shorts();
+    let mut words = room::for_words();
     let b = at.bytes;
     let s = at.shorts;
     let w = at.words;
@@ -111,24 +109,18 @@ fn judge_case(
         name,
         case,
         at,
-        memory::lend_bytes(bytes, b.length),
-        memory::lend_shorts(shorts, s.length / 2),
-        memory::lend_words(words, w.length / 4),
+        memory::lend_bytes(&mut bytes, b.length),
+        memory::lend_shorts(&mut shorts, s.length / 2),
+        memory::lend_words(&mut words, w.length / 4),
     )
 }
 
 // Judges the line of a call.
-pub fn judge(
-    name: &[u8],
-    text: &[u8],
-    room: &mut [u8],
-    bytes: &mut [u8],
-    shorts: &mut [u16],
-    words: &mut [i32],
-) -> u8 {
-    let count = unpack(text, room);
-    if count >= room.len() {
+pub fn judge(name: &[u8], text: &[u8]) -> u8 {
+    let mut case = room::for_case();
+    let count = unpack(text, &mut case);
+    if count >= room::CASE {
         return UNREADABLE;
     }
-    judge_case(name, part(room, 0, count), bytes, shorts, words)
+    judge_case(name, part(&case, 0, count))
 }

@@ -41,37 +41,21 @@ fn turn(text: &[u8], at: usize, verdict: u8, book: Book) -> Book {
 }
 
 // Enters the line from a place to its end.
-fn enter(
-    text: &[u8],
-    at: usize,
-    to: usize,
-    line: u64,
-    book: Book,
-    case: &mut [u8],
-    bytes: &mut [u8],
-    shorts: &mut [u16],
-    words: &mut [i32],
-) -> Book {
+fn enter(text: &[u8], at: usize, to: usize, line: u64, book: Book) -> Book {
     let s = part(text, at, to);
     if byte_at(s, 0) == b'#' {
         return book;
     }
     let name = part(s, 0, MARK);
     let mark = byte_at(s, MARK);
-    let verdict = judge::judge(name, part(s, HEX, s.len()), case, bytes, shorts, words);
+    let verdict = judge::judge(name, part(s, HEX, s.len()));
     let open = turn(text, at, verdict, book);
     report::say_wrong(line, name, mark, verdict);
     open.entered(mark, verdict)
 }
 
 // Enters all lines, as many as the first one says.
-fn replay(
-    text: &[u8],
-    case: &mut [u8],
-    bytes: &mut [u8],
-    shorts: &mut [u16],
-    words: &mut [i32],
-) -> Book {
+fn replay(text: &[u8]) -> Book {
     let mut book = count::empty();
     let mut line: u64 = 1;
     let mut at = behind(next_place(text, 0, b'\n'), 1);
@@ -82,7 +66,7 @@ fn replay(
         }
         line = std::num::wrapping_add_u64(line, 1);
         let to = next_place(text, at, b'\n');
-        book = enter(text, at, to, line, book, case, bytes, shorts, words);
+        book = enter(text, at, to, line, book);
         at = behind(to, 1);
         left -= 1;
     }
@@ -91,12 +75,8 @@ fn replay(
 }
 
 fn replay_text(text: &[u8]) {
-    let mut case = room::for_case();
-    let mut bytes = room::for_case();
-    let mut shorts = room::for_shorts();
-    let mut words = room::for_words();
     report::say_head();
-    let book = replay(text, &mut case, &mut bytes, &mut shorts, &mut words);
+    let book = replay(text);
     report::say_row(name_at(text, book.named), book.chapter);
     report::say_row(b"total               ", book.total);
 }

@@ -2,24 +2,30 @@
 ghost use mathlib.Core.Path.{_≡_};
 ghost use lib.ListN.{length};
 
-// More than the bytes of a recording.
+// More than the bytes of a recording, and of a case.
 pub const TEXT: usize = 1048576;
 
-// A whole recording.
+pub const CASE: usize = 655360;
+
 pub fn for_text() -> [u8; TEXT]
     ensures { λ r. ⌜ 1048576 ≡ length r ⌝ }
 {
     [0; TEXT]
 }
 
-// One case, or the bytes that it lends.
-pub fn for_case() -> [u8; 655360]
+pub fn for_case() -> [u8; CASE]
     ensures { λ r. ⌜ 655360 ≡ length r ⌝ }
 {
-    [0; 655360]
+    [0; CASE]
 }
 
-// The lists that it lends: it holds them twice, before the call and after it, so that half as many bytes are enough.
+// What a case lends: it holds that twice, before the call and after it, so that half as many bytes are always enough.
+pub fn for_bytes() -> [u8; 327680]
+    ensures { λ r. ⌜ 327680 ≡ length r ⌝ }
+{
+    [0; 327680]
+}
+
 pub fn for_shorts() -> [u16; 163840]
     ensures { λ r. ⌜ 163840 ≡ length r ⌝ }
 {

@@ -290,7 +290,7 @@ pub fn recording(chapters: &[Chapter]) -> String {
         .flat_map(|chapter| [&chapter.cases[..], &chapter.wrong].concat());
     let text: String = lines.map(|line| format!("{line}\n")).collect();
     let count = HEAD.lines().count() - 1 + text.lines().count();
-    format!("{count:06x}{HEAD}{text}")
+    format!("{count:06x} {HEAD}{text}")
 }
 
 /// What replaying it has to print, if our library does all that is recorded.

@@ -1,20 +1,13 @@
--- The lines left to enter fall; the rooms keep their lengths.
-use mathlib.Core.Path.{_≡_}
-use lib.ListN.{length}
+-- The lines left to enter fall.
 use borrow.Author.Needs.{needs}
 use Rattle.replay.proofs.replay.Statement.{statement}
 use Rattle.replay.proofs.replay.Tie as tie
 
 abbrev Inv-loop : tie.InvT-loop
-Inv-loop text case₀ bytes₀ shorts₀ words₀ book₀ line₀ at₀ left₀ case bytes shorts words book line at left =
-    (length case ≡ length case₀)
-    × (length bytes ≡ length bytes₀)
-    × (length shorts ≡ length shorts₀)
-    × (length words ≡ length words₀)
+Inv-loop text book₀ line₀ at₀ left₀ book line at left = Unit {0}
 
 abbrev μ-loop : tie.MeasureT-loop
-μ-loop text case₀ bytes₀ shorts₀ words₀ book₀ line₀ at₀ left₀ case bytes shorts words book line at left =
-    left
+μ-loop text book₀ line₀ at₀ left₀ book line at left = left
 
 pub replay-spec : {M : Type 1} → statement M
 replay-spec =
@@ -35,8 +28,4 @@ replay-spec =
     (λ c. search needs)
     (λ c. search needs)
     (λ c κs. search needs)
-    (λ c. search needs)
-    (λ c. search needs)
-    (λ c. search needs)
-    (λ c. search needs)
     (λ c. search needs))
