@@ -9,7 +9,6 @@ use lib.ListN.{length}
 use lib.Seq.{sets}
 use Rattle.refusal.specs.Outcome.{Outcome}
 use Rattle.lent.specs.Fills.{held}
-use Rattle.lent.specs.After.{over}
 use Rattle.unknown.specs.Packet.{packetBytes}
 use Rattle.unknown.specs.Write.{written}
 use Rattle.nack_store.specs.Bits.{added}
@@ -42,7 +41,7 @@ abbrev pub WroteNack : List ℕ → List ℕ → Said → List ℕ → Type 0
 WroteNack store out = Wrote number (ofStore store (intoRoom (length (nackBytes store)) (length out))) (sets out 0 (nackBytes store)) out
 
 abbrev pub ReadTwcc : List ℕ → List ℤ → Said → List ℤ → Type 0
-ReadTwcc block list = Wrote listedBlock (readAnswer block (length list)) (over (listed block) list) list
+ReadTwcc block list = Wrote listedBlock (readAnswer block (length list)) (sets list 0 (listed block)) list
 
 -- a limit that is looked at only where it is given
 abbrev pub given : Bool → ℕ → Option ℕ
@@ -51,4 +50,4 @@ given false limit = none
 
 abbrev pub WroteTwcc : ℕ → ℕ → ℕ → List ℤ → Option ℕ → List ℕ → Said → List ℕ → Type 0
 WroteTwcc base time feedback list limit old =
-    Wrote block (writtenBlock time list limit (length old)) (over (blockBytes base time feedback limit list) old) old
+    Wrote block (writtenBlock time list limit (length old)) (sets old 0 (blockBytes base time feedback limit list)) old

@@ -6,7 +6,6 @@ use native.Mathlib.Nat.{add-zero, zero-add}
 use native.Mathlib.Omega.{arith}
 use lib.ListN.{length, getD, take, drop, set, length-set}
 use lib.Seq.{sets, sets-eq, set-out, take-at}
-use Rattle.lent.specs.After.{over}
 use Rattle.lent.specs.Bytes.{zeroBytes, fitting}
 
 pub sets-append : {A : Type 0} (out : List A) (at : ℕ) (first rest : List A) → sets (sets out at first) (at + length first) rest ≡ sets out at (first ++ rest)
@@ -66,5 +65,5 @@ pub copy-through : (out between between' : List ℕ) (at : ℕ) (bytes : List �
 copy-through out between between' at bytes n there all fits = ap (λ (l : List ℕ). sets out at l) (ap (λ (l : List ℕ). take n l) there ∙ take-sets between bytes n all fits)
 
 -- elements that fit, stored one by one from the start on
-pub sets-over : {A : Type 0} (front old : List A) → length front ≤ length old → sets old 0 front ≡ over front old
+pub sets-over : {A : Type 0} (front old : List A) → length front ≤ length old → sets old 0 front ≡ front ++ drop (length front) old
 sets-over front old fits = simp zero-add at (sets-eq front old 0 (omega arith))

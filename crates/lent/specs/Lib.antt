@@ -1,6 +1,5 @@
 pub mod Bytes
 pub mod Fills
-pub mod After
 pub mod Room
 pub mod Store
 pub mod Part

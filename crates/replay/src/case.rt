@@ -1,4 +1,5 @@
-// A case's bytes: its parts in their order, each behind its own opening. A part that is not there is empty.
+// A case's bytes: its parts in their order, each behind its own opening, as the head of a recording lists them. A part that is not
+// there is empty.
 use crate::bytes::behind;
 use crate::bytes::byte_at;
 use crate::bytes::long_at;
@@ -100,7 +101,7 @@ fn number(s: &[u8], width: u32, place: u8) -> u64 {
     }
 }
 
-// The numbers of a part, and zeros behind them.
+// The numbers of a part, nine at most: an outcome has its number and eight values. Behind them stand zeros.
 pub fn numbers_of(case: &[u8], of: Part) -> [u64; 9] {
     let s = before(case, of);
     let w = of.width;

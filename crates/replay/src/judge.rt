@@ -88,7 +88,7 @@ fn run(
     verdict(numbers_of(case, at.outcome), said, left)
 }
 
-// The rooms are large enough for all that a case can lend.
+// A case ends with its outcome. The rooms are large enough for all that it can lend.
 fn judge_case(
     name: &[u8],
     case: &[u8],
@@ -97,7 +97,11 @@ fn judge_case(
     words: &mut [i32],
 ) -> u8 {
     let at = parts_of(case);
-    if past(at.outcome) != case.len() {
+    let outcome = at.outcome;
+    if outcome.length == 0 {
+        return UNREADABLE;
+    }
+    if past(outcome) != case.len() {
         return UNREADABLE;
     }
     let b = at.bytes;

@@ -10,7 +10,7 @@ use lib.IntN.{ℤ, pos, negsuc}
 use lib.ListN.{length, take, drop, length-append}
 use Rattle.octets.proofs.Logic.{by-test}
 use Rattle.twcc.specs.Time.{latest, timeOf, timeBits}
-use Rattle.twcc.specs.Words.{half, Valid, AllValid, bytesOf, widthOf, signed16, wordOf, entries, symbolOf, bits16, bytesFor, deltaBytes, deltas}
+use Rattle.twcc.specs.Words.{half, Valid, AllValid, bytesOf, widthOf, signed16, wordOf, entries, symbolOf, bits16, deltaBytes, deltas}
 use Rattle.twcc.specs.Chunks.{Below, standsFor, chunkBytes}
 use Rattle.twcc.specs.Block.{symbols, afterChunks}
 use Rattle.twcc.proofs.Reading.{symbols-zero, symbols-cons, after-zero, after-cons}
@@ -45,7 +45,7 @@ bytes-symbol (suc (suc zero)) known = refl
 bytes-symbol (suc (suc (suc s))) known = absurd (omega arith)
 
 pub length-delta : (w : ℤ) → length (deltaBytes w) ≡ symbolOf w
-unfolding deltaBytes symbolOf bytesFor
+unfolding deltaBytes symbolOf
 length-delta (pos n) =
     by-test (ltb n 256) (λ e. rw e refl) (λ e. rw e (by-test (ltb n half) (λ f. rw f refl) (λ f. rw f refl)))
 length-delta (negsuc n) = refl
@@ -63,7 +63,7 @@ joined bits = omega arith
 -- the word itself, and the bytes that follow its own
 word-back : (w : ℤ) (rest : List ℕ) → Valid w
     → (wordOf (symbolOf w) (deltaBytes w ++ rest) ≡ w) × (drop (bytesOf (symbolOf w)) (deltaBytes w ++ rest) ≡ rest)
-unfolding deltaBytes symbolOf bytesFor bits16 wordOf bytesOf signed16
+unfolding deltaBytes symbolOf bits16 wordOf bytesOf signed16
 word-back (pos n) rest valid =
     by-test (ltb n 256)
     (λ e. rw e (refl, refl))

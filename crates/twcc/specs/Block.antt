@@ -1,29 +1,24 @@
 -- What a block reads as, on any bytes (the draft, 3.1): the header's numbers, the symbols of its chunks, its delta bytes
 -- and the list of status words.
-use Prim.Native.Nat.{ℕ, zero, suc, _+_, _-_, _*_}
+use Prim.Native.Nat.{ℕ, zero, suc, _-_}
 use mathlib.Core.List.{List, [], _∷_, _++_}
 use lib.IntN.{ℤ}
 use lib.ListN.{length, getD, take, drop}
+use Rattle.octets.specs.Big.{be}
 use Rattle.twcc.specs.Time.{timeOf}
 use Rattle.twcc.specs.Words.{entries}
 use Rattle.twcc.specs.Chunks.{standsFor}
 
 -- ---- the header: eight bytes
 
-abbrev pub be16 : List ℕ → ℕ → ℕ
-be16 bytes at = 256 * getD bytes at 0 + getD bytes (at + 1) 0
-
-abbrev pub be24 : List ℕ → ℕ → ℕ
-be24 bytes at = 65536 * getD bytes at 0 + 256 * getD bytes (at + 1) 0 + getD bytes (at + 2) 0
-
 abbrev pub baseOf : List ℕ → ℕ
-baseOf block = be16 block 0
+baseOf block = be 2 block 0
 
 abbrev pub statusCount : List ℕ → ℕ
-statusCount block = be16 block 2
+statusCount block = be 2 block 2
 
 abbrev pub referenceTime : List ℕ → ℕ
-referenceTime block = timeOf (be24 block 4)
+referenceTime block = timeOf (be 3 block 4)
 
 abbrev pub feedbackCount : List ℕ → ℕ
 feedbackCount block = getD block 7 0
@@ -37,14 +32,14 @@ unfoldable pub symbols : List ℕ → ℕ → List ℕ
 symbols [] left = []
 symbols (a ∷ []) left = []
 symbols (a ∷ b ∷ bytes) left =
-    take left (standsFor (256 * a + b)) ++ symbols bytes (left - length (standsFor (256 * a + b)))
+    take left (standsFor (be 2 (a ∷ b ∷ []) 0)) ++ symbols bytes (left - length (standsFor (be 2 (a ∷ b ∷ []) 0)))
 
 -- the bytes that follow the chunks taken
 unfoldable pub afterChunks : List ℕ → ℕ → List ℕ
 afterChunks [] left = []
 afterChunks (a ∷ []) left = a ∷ []
 afterChunks (a ∷ b ∷ bytes) zero = a ∷ b ∷ bytes
-afterChunks (a ∷ b ∷ bytes) (suc left) = afterChunks bytes (suc left - length (standsFor (256 * a + b)))
+afterChunks (a ∷ b ∷ bytes) (suc left) = afterChunks bytes (suc left - length (standsFor (be 2 (a ∷ b ∷ []) 0)))
 
 unfoldable pub blockSymbols : List ℕ → List ℕ
 blockSymbols block = symbols (drop 8 block) (statusCount block)

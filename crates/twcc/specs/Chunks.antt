@@ -1,10 +1,11 @@
 -- Status chunks (the draft, 3.1.2 to 3.1.4): the symbols that a chunk's 16 bits stand for, and the bits and the bytes of each kind
 -- of chunk. A chunk as 16 bits is called `chunk`, as what it was made of `Chunk`.
 use Prim.Native.Nat.{ℕ, zero, suc, _+_, _*_, _/_, _%_, _^_, _<_}
-use mathlib.Core.List.{List, [], _∷_}
+use mathlib.Core.List.{List, [], _∷_, _++_}
 use mathlib.Core.Bool.{cond}
 use lib.Dec.{ltb}
 use lib.ListN.{replicate}
+use Rattle.octets.specs.Big.{beBytes}
 
 -- ---- symbols as digits: base 2 in a one-bit vector, base 4 in a two-bit vector
 
@@ -62,4 +63,4 @@ chunkWord (Two ss) = onesEnd + pack 4 7 ss
 -- the bytes of chunks, the high byte first
 unfoldable pub chunkBytes : List ℕ → List ℕ
 chunkBytes [] = []
-chunkBytes (chunk ∷ chunks) = chunk / 256 ∷ chunk % 256 ∷ chunkBytes chunks
+chunkBytes (chunk ∷ chunks) = beBytes 2 chunk ++ chunkBytes chunks

@@ -1,10 +1,11 @@
 -- One packet's status: its symbol, its delta bytes, and the status word that stands for it in a list.
-use Prim.Native.Nat.{ℕ, zero, suc, _+_, _-_, _*_, _/_, _%_, _≤_, _<_}
+use Prim.Native.Nat.{ℕ, zero, suc, _+_, _-_, _≤_, _<_}
 use mathlib.Core.List.{List, [], _∷_, _++_}
 use mathlib.Core.Bool.{cond}
 use lib.Dec.{ltb}
 use lib.IntN.{ℤ, pos, negsuc}
 use lib.ListN.{drop}
+use Rattle.octets.specs.Big.{be, beBytes}
 
 -- ---- the draft, 3.1.1 and 3.1.5
 
@@ -45,7 +46,7 @@ wordOf (suc zero) [] = truncated
 wordOf (suc zero) (d ∷ ds) = pos d
 wordOf (suc (suc zero)) [] = truncated
 wordOf (suc (suc zero)) (d ∷ []) = truncated
-wordOf (suc (suc zero)) (d ∷ e ∷ ds) = signed16 (256 * d + e)
+wordOf (suc (suc zero)) (d ∷ e ∷ ds) = signed16 (be 2 (d ∷ e ∷ []) 0)
 wordOf (suc (suc (suc n))) ds = reserved
 
 -- the words of symbols and delta bytes; of too few bytes an entry eats what is there
@@ -74,15 +75,9 @@ unfoldable pub bits16 : ℤ → ℕ
 bits16 (pos n) = n
 bits16 (negsuc n) = 65535 - n
 
--- so many bytes of these bits, the high byte first
-unfoldable pub bytesFor : ℕ → ℕ → List ℕ
-bytesFor zero bits = []
-bytesFor (suc zero) bits = bits ∷ []
-bytesFor (suc (suc s)) bits = bits / 256 ∷ bits % 256 ∷ []
-
 -- a word's delta bytes, as many as its symbol says
 unfoldable pub deltaBytes : ℤ → List ℕ
-deltaBytes w = bytesFor (symbolOf w) (bits16 w)
+deltaBytes w = beBytes (symbolOf w) (bits16 w)
 
 unfoldable pub deltas : List ℤ → List ℕ
 deltas [] = []

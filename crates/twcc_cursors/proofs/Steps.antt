@@ -13,7 +13,8 @@ use lib.ListN.{length, getD, take, drop, length-drop, length-append, length-take
 use lib.Seq.{take-nil, drop-cons, drop-drop}
 use Rattle.twcc.specs.Words.{bytesOf, signed16, notReceived, truncated, reserved, wordOf}
 use Rattle.twcc.specs.Chunks.{standsFor}
-use Rattle.twcc.specs.Block.{be16, baseOf, statusCount, referenceTime, feedbackCount, symbols, afterChunks, blockSymbols, blockDeltas}
+use Rattle.octets.specs.Big.{be}
+use Rattle.twcc.specs.Block.{baseOf, statusCount, referenceTime, feedbackCount, symbols, afterChunks, blockSymbols, blockDeltas}
 use Rattle.twcc.proofs.Reading.{symbols-zero, symbols-short, symbols-cons, after-zero, after-short, after-cons}
 use Rattle.twcc_cursors.specs.Cursors.{headerOf, saidHeaded, headed, taken, nextChunk, fullChunk, nextDelta, countsOf}
 use Rattle.refusal.specs.Outcome.{gave}
@@ -96,13 +97,13 @@ module _ (s : List ℕ) (c : Chunks) where
   unfolding nextChunk
   next-short short = simp (lt-ltb _ _ short, either)
 
-  pub next-taken : (c .left ≡ 0 → ⊥) → c .at + 2 ≤ length s → taken (c .at) (c .left) (be16 s (c .at)) ≡ nextChunk s c
+  pub next-taken : (c .left ≡ 0 → ⊥) → c .at + 2 ≤ length s → taken (c .at) (c .left) (be 2 s (c .at)) ≡ nextChunk s c
   unfolding nextChunk
   next-taken some fits = simp (ne-eqb _ _ some, le-ltb _ _ fits)
 
   -- what holds of each case holds of the step
   by-step : (P : NextChunk → Type 0) → (c .left ≡ 0 → P Over) → (length s < c .at + 2 → P Over)
-      → ((c .left ≡ 0 → ⊥) → c .at + 2 ≤ length s → P (taken (c .at) (c .left) (be16 s (c .at)))) → P (nextChunk s c)
+      → ((c .left ≡ 0 → ⊥) → c .at + 2 ≤ length s → P (taken (c .at) (c .left) (be 2 s (c .at)))) → P (nextChunk s c)
   by-step P none short more = by-left (ℕ-discrete (c .left) 0)
     where
       by-length : (c .left ≡ 0 → ⊥) → Dec (length s < c .at + 2) → P (nextChunk s c)
@@ -115,7 +116,7 @@ module _ (s : List ℕ) (c : Chunks) where
 
 -- what the code answers, from the numbers that it has
 pub taken-is : (s : List ℕ) (c : Chunks) (chunk size count left : ℕ) → (c .left ≡ 0 → ⊥) → c .at + 2 ≤ length s
-    → chunk ≡ be16 s (c .at) → size ≡ length (standsFor chunk) → count ≡ min (c .left) size → left ≡ c .left - size
+    → chunk ≡ be 2 s (c .at) → size ≡ length (standsFor chunk) → count ≡ min (c .left) size → left ≡ c .left - size
     → Taken chunk count (record { at = c .at + 2; left = left }) ≡ nextChunk s c
 taken-is s c chunk size count left some fits a-chunk a-size a-count a-left =
     rw (a-count, a-left, a-size, a-chunk) (next-taken s c some fits)
@@ -168,7 +169,7 @@ step-is s c =
     let short : length (drop (c .at) s) < 2 = rw length-drop (omega arith) in
     record { none = symbols-short _ _ short; after = after-short _ _ short; full = full-short _ _ _ short })
     (λ some fits.
-    let chunk = be16 s (c .at) in
+    let chunk = be 2 s (c .at) in
     let two = drop-two s (c .at) fits in
     record {
       more = rw (two, symbols-cons, take-min (c .left) (standsFor chunk));
@@ -332,7 +333,7 @@ module _ (s : List ℕ) (at n : ℕ) where
   unfolding wordOf
   word-half large inside last = rw (large, drop-cons s at 0 inside, drop-of-length-le s {i = suc at} (omega arith))
 
-  pub word-large : n ≡ 2 → at + 1 < length s → signed16 (be16 s at) ≡ wordOf n (drop at s)
+  pub word-large : n ≡ 2 → at + 1 < length s → signed16 (be 2 s at) ≡ wordOf n (drop at s)
   unfolding wordOf
   word-large large inside =
       let second : suc at < length s = omega arith in

@@ -8,7 +8,8 @@ use Rattle.refusal.specs.Outcome.{Outcome, gave, refuse}
 use Rattle.refusal.specs.Number.{no}
 use Rattle.twcc.specs.Words.{bytesOf, wordOf}
 use Rattle.twcc.specs.Chunks.{standsFor}
-use Rattle.twcc.specs.Block.{be16, baseOf, statusCount, referenceTime, feedbackCount, blockSymbols, deltasStart}
+use Rattle.octets.specs.Big.{be}
+use Rattle.twcc.specs.Block.{baseOf, statusCount, referenceTime, feedbackCount, blockSymbols, deltasStart}
 use Rattle.twcc_cursors.specs.declared.Header.{Header}
 use Rattle.twcc_cursors.specs.declared.Headed.{Headed}
 use Rattle.twcc_cursors.specs.declared.Headed.the-variants as answer
@@ -48,7 +49,7 @@ unfoldable pub nextChunk : List ℕ → Chunks → NextChunk
 nextChunk block c =
     cond (eqb (c .left) 0) Over
     (cond (ltb (length block) (c .at + 2)) Over
-    (taken (c .at) (c .left) (be16 block (c .at))))
+    (taken (c .at) (c .left) (be 2 block (c .at))))
 
 -- the next chunk that lists an entry, where `left` statuses are left; the bytes are those from the place `at` on
 unfoldable pub fullChunk : List ℕ → ℕ → ℕ → NextChunk

@@ -14,13 +14,6 @@ ghost use Rattle.twcc.specs.Time.{latest, timeOf};
 ghost use Rattle.twcc_cursors.specs.Cursors.{saidHeaded, headed, countsOf, nextChunk, fullChunk, nextDelta};
 ghost use Rattle.twcc_cursors.specs.Packets.{saidOpened, opened, packetAt, nextPacket};
 
-fn joined(high: usize, low: usize) -> usize
-    requires { ⌜ (high < 256) × (low < 256) ⌝ }
-    ensures { λ r. ⌜ (r ≡ 256 * high + low) × (r < 65536) ⌝ }
-{
-    256 * high + low
-}
-
 // The time of 24 bits.
 fn time_of(bits: usize) -> RefTime
     requires { ⌜ bits ≤ latest ⌝ }
@@ -54,11 +47,9 @@ impl Header {
                 actual: block.len(),
             });
         }
-        let base = joined(octets::byte_at(block, 0), octets::byte_at(block, 1));
-        let statuses = joined(octets::byte_at(block, 2), octets::byte_at(block, 3));
-        let time = 65536 * octets::byte_at(block, 4)
-            + 256 * octets::byte_at(block, 5)
-            + octets::byte_at(block, 6);
+        let base = octets::be16_at(block, 0);
+        let statuses = octets::be16_at(block, 2);
+        let time = 256 * octets::be16_at(block, 4) + octets::byte_at(block, 6);
         let feedback = octets::byte_at(block, 7);
         Headed::Header(Header {
             base: Seq(base as u16),
@@ -100,7 +91,7 @@ impl Chunks {
         if block.len() - 2 < at {
             return NextChunk::Over;
         }
-        let chunk = joined(octets::byte_at(block, at), octets::byte_at(block, at + 1));
+        let chunk = octets::be16_at(block, at);
         let size = twcc::size(chunk);
         let count = octets::lesser(left, size);
         NextChunk::Taken {

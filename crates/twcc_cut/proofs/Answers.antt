@@ -8,10 +8,12 @@ use native.Mathlib.Omega.{arith}
 use borrow.Author.Tests.{ltb-false, le-ltb}
 use lib.Dec.{ltb}
 use lib.IntN.{ℤ}
-use lib.ListN.{length, take, drop}
-use lib.Seq.{take-at}
+use lib.ListN.{length, take}
+use lib.Seq.{sets}
+use Rattle.octets.proofs.Logic.{never}
 use Rattle.refusal.specs.Outcome.{Outcome, gave, refuse}
-use Rattle.lent.specs.After.{after}
+use Rattle.lent.specs.Fills.{held}
+use Rattle.lent.proofs.Laws.{take-sets}
 use Rattle.twcc.specs.Time.{latest, tooLate}
 use Rattle.twcc.specs.Words.{AllValid}
 use Rattle.twcc_plan.specs.Block.{mostEntries, firstBad, takenOf, sizeOf, blockBytes}
@@ -19,7 +21,7 @@ use Rattle.twcc_plan.specs.Limits.{Within}
 use Rattle.twcc_plan.proofs.BlockLaws.{none-bad, valid-fine, block-length}
 use Rattle.twcc_write.specs.Limits.{leastOf}
 use Rattle.twcc_write.proofs.Answers.{eight-within, within-eight}
-use Rattle.twcc_write.specs.Promise.{written, Wrote}
+use Rattle.twcc_write.specs.Promise.{saidWritten, written, Wrote}
 use Rattle.twcc_write.specs.declared.Used.{Used}
 use Rattle.twcc_write.specs.declared.Written.{Written}
 use Rattle.twcc_write.specs.declared.Written.the-variants.{Block, No}
@@ -53,11 +55,11 @@ module _ {time : ℕ} {list : List ℤ} {limit : Option ℕ} {room : ℕ} where
       → cond b₁ (refuse 10 (time ∷ [])) (cond b₂ (refuse 13 (length list ∷ [])) (cond b₃ (refuse 12 (firstBad list ∷ []))
       (cond b₄ (refuse 14 (leastOf limit ∷ [])) (cond b₅ (refuse 15 (sizeOf limit list ∷ room ∷ [])) (gave (usedFor list limit)))))) ≡ gave used
       → Passed time list limit room × (used ≡ usedFor list limit)
-  go true b₂ b₃ b₄ b₅ e₁ e₂ e₃ e₄ e₅ p = let z : _≡_ {A = ℕ} 0 1 = cc in absurd (omega arith)
-  go false true b₃ b₄ b₅ e₁ e₂ e₃ e₄ e₅ p = let z : _≡_ {A = ℕ} 0 1 = cc in absurd (omega arith)
-  go false false true b₄ b₅ e₁ e₂ e₃ e₄ e₅ p = let z : _≡_ {A = ℕ} 0 1 = cc in absurd (omega arith)
-  go false false false true b₅ e₁ e₂ e₃ e₄ e₅ p = let z : _≡_ {A = ℕ} 0 1 = cc in absurd (omega arith)
-  go false false false false true e₁ e₂ e₃ e₄ e₅ p = let z : _≡_ {A = ℕ} 0 1 = cc in absurd (omega arith)
+  go true b₂ b₃ b₄ b₅ e₁ e₂ e₃ e₄ e₅ p = never (cc)
+  go false true b₃ b₄ b₅ e₁ e₂ e₃ e₄ e₅ p = never (cc)
+  go false false true b₄ b₅ e₁ e₂ e₃ e₄ e₅ p = never (cc)
+  go false false false true b₅ e₁ e₂ e₃ e₄ e₅ p = never (cc)
+  go false false false false true e₁ e₂ e₃ e₄ e₅ p = never (cc)
   go false false false false false e₁ e₂ e₃ e₄ e₅ p = (
     record {
       fits = ltb-false latest time e₁;
@@ -85,16 +87,17 @@ module _ {base time feedback : ℕ} {list : List ℤ} {limit : Option ℕ} {old 
   pub block-there : (used : Used) → Wrote base time feedback list limit old (Block used) new → BlockThere base time feedback list limit old new used
   block-there used wrote =
       let block = blockBytes base time feedback limit list in
-      let known = written-passed used (sym (wrote .said)) in
-      let whole : new ≡ after {B = Used} (gave used) block old = wrote .holds ∙ ap (λ (o : Outcome Used). after o block old) (sym (wrote .said)) in
+      let known = written-passed used (sym (wrote .answer)) in
+      let whole : new ≡ sets old 0 block = wrote .memory ∙ ap (λ (o : Outcome Used). held o (sets old 0 block) old) (sym (wrote .answer)) in
       let size : length block ≡ used .bytes = block-length limit list (known .0 .eight) base time feedback ∙ sym (ap (λ (u : Used). u .bytes) (known .1)) in
       record {
         passed = known .0;
         is = known .1;
-        there = ap (λ (l : List ℕ). take (used .bytes) l) whole ∙ take-at block (drop (length block) old) (used .bytes) size;
+        there = ap (λ (l : List ℕ). take (used .bytes) l) whole ∙ take-sets old block (used .bytes) size (rw (known .1) (known .0 .enough));
       }
 
-  -- what passes the tests is not refused
-  pub block-answered : (answer : Written) → Passed time list limit (length old) → Wrote base time feedback list limit old answer new → answer ≡ Block (usedFor list limit)
-  block-answered (Block used) passed wrote = let same = wrote .said ∙ passed-written passed in cc
-  block-answered (No r) passed wrote = let same = wrote .said ∙ passed-written passed in let z : _≡_ {A = ℕ} 0 1 = cc in absurd (omega arith)
+-- what passes the tests is not refused
+pub block-answered : {time : ℕ} {list : List ℤ} {limit : Option ℕ} {room : ℕ} (answer : Written) → Passed time list limit room → saidWritten answer ≡ written time list limit room
+    → answer ≡ Block (usedFor list limit)
+block-answered (Block used) passed said = let same = said ∙ passed-written passed in cc
+block-answered (No r) passed said = let same = said ∙ passed-written passed in never (cc)

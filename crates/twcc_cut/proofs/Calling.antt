@@ -92,11 +92,11 @@ reading-is (reading.No q) said is = cc
 
 -- ---- that the procedure goes on: with room, no call on what is left is refused, and the writer takes an entry
 
-pub write-goes-on : {base : ℕ} {list : List ℤ} {old new : List ℕ} (c : Choice) (answer : Written) → Fits c → zero < length list → length list ≤ mostEntries → AllValid list
+pub write-goes-on : (base : ℕ) (list : List ℤ) {old new : List ℕ} (c : Choice) (answer : Written) → Fits c → zero < length list → length list ≤ mostEntries → AllValid list
     → sizeOf (c .limit) list ≤ length old → Wrote base (c .time) (c .feedback) list (c .limit) old answer new
     → (answer ≡ written.Block (usedFor list (c .limit))) × (zero < takenOf (c .limit) list)
-write-goes-on {list = list} c answer fits there short valid room wrote = (
-  block-answered answer (record { fits = fits .1; short = short; valid = valid; eight = wide-eight (c .limit) (fits .0); enough = room }) wrote,
+write-goes-on base list c answer fits there short valid room wrote = (
+  block-answered answer (record { fits = fits .1; short = short; valid = valid; eight = wide-eight (c .limit) (fits .0); enough = room }) (wrote .answer),
   block-takes (c .limit) list (fits .0) there,
 )
 
@@ -123,7 +123,7 @@ module _ (write : Writer) (read : Reader) (way : Ways) (enough : (before : List 
       let m = way before list in
       let e = enough before list in
       let w = write base list m in
-      let goes = write-goes-on (m .choice) (w .0) (e .0) there short valid (e .1) (w .1 .1) in
+      let goes = write-goes-on base list (m .choice) (w .0) (e .0) there short valid (e .1) (w .1 .1) in
       let used = usedFor list (m .choice .limit) in
       let wrote = subst (λ (a : Written). Wrote base (m .choice .time) (m .choice .feedback) list (m .choice .limit) (m .buffer) a (w .1 .0)) (goes .0) (w .1 .1) in
       let block = block-there used wrote in

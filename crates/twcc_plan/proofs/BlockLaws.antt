@@ -13,11 +13,12 @@ use lib.ListN.{length, take, drop, length-append, length-map}
 use Rattle.lent.specs.Bytes.{zeroBytes}
 use Rattle.lent.proofs.Laws.{length-zeroBytes}
 use Rattle.twcc.specs.Time.{latest, timeOf, timeBits}
+use Rattle.octets.specs.Big.{be}
 use Rattle.octets.proofs.Logic.{by-test}
 use Rattle.twcc.proofs.Written.{time-back, time-bits, symbols-lt, length-deltas, entries-back, symbols-back, after-back}
-use Rattle.twcc.specs.Words.{half, Valid, AllValid, symbolOf, bits16, bytesFor, deltaBytes, deltas, widthOf}
+use Rattle.twcc.specs.Words.{half, Valid, AllValid, symbolOf, bits16, deltaBytes, deltas, widthOf}
 use Rattle.twcc.specs.Chunks.{Below, Chunk, chunkWord, chunkBytes}
-use Rattle.twcc.specs.Block.{be24, baseOf, statusCount, referenceTime, feedbackCount, blockSymbols, blockDeltas, listed}
+use Rattle.twcc.specs.Block.{baseOf, statusCount, referenceTime, feedbackCount, blockSymbols, blockDeltas, listed}
 use Rattle.twcc_plan.specs.Front.{front}
 use Rattle.twcc_plan.specs.Choice.{takenBy, widthBy}
 use Rattle.twcc_plan.specs.Plan.{usedBy}
@@ -84,7 +85,7 @@ zeros-bytes zero = tt
 zeros-bytes (suc n) = (omega arith, zeros-bytes n)
 
 delta-bytes : (w : ℤ) → Valid w → Below 256 (deltaBytes w)
-unfolding deltaBytes symbolOf bytesFor bits16
+unfolding deltaBytes symbolOf bits16
 delta-bytes (pos n) valid =
     by-test (ltb n 256)
     (λ e. rw e (ltb-true n 256 e, tt))
@@ -163,7 +164,7 @@ module _ (limit : Option ℕ) (list : List ℤ) (eight : Within limit 8) where
     unfolding blockBytes header
     block-time fits =
         let bits = time-bits time fits in
-        let image : be24 block 4 ≡ timeBits time = omega arith in
+        let image : be 3 block 4 ≡ timeBits time = omega arith in
         ap timeOf image ∙ time-back time fits
 
     -- the symbols of its chunks are those of the entries that it took; after the chunks come their deltas and the padding

@@ -1,11 +1,12 @@
 -- The bytes of a block that is written: header, chunks, delta bytes, zeros to a multiple of four (the draft, 3.1).
-use Prim.Native.Nat.{ℕ, _+_, _-_, _/_, _%_}
+use Prim.Native.Nat.{ℕ, _+_, _-_}
 use mathlib.Core.List.{List, [], _∷_, _++_, map}
 use mathlib.Core.Option.{Option}
 use mathlib.Core.Bool.{Bool}
 use lib.Dec.{ltb, leb}
 use lib.IntN.{ℤ, pos, negsuc}
 use lib.ListN.{length, take}
+use Rattle.octets.specs.Big.{beBytes}
 use Rattle.lent.specs.Bytes.{zeroBytes}
 use Rattle.twcc.specs.Time.{timeBits}
 use Rattle.twcc.specs.Words.{half, symbolOf, deltas}
@@ -33,9 +34,7 @@ firstBad list = front inRange list
 
 -- base and status count of two bytes each, the time's three, the feedback count
 unfoldable pub header : ℕ → ℕ → ℕ → ℕ → List ℕ
-header base count time feedback =
-    base / 256 ∷ base % 256 ∷ count / 256 ∷ count % 256
-    ∷ timeBits time / 65536 ∷ timeBits time / 256 % 256 ∷ timeBits time % 256 ∷ feedback ∷ []
+header base count time feedback = beBytes 2 base ++ beBytes 2 count ++ beBytes 3 (timeBits time) ++ beBytes 1 feedback
 
 -- a block's chunks: eight bytes are used and no entry is taken before the first
 unfoldable pub chunksOf : Option ℕ → List ℤ → List Chunk

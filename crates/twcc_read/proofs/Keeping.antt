@@ -8,10 +8,12 @@ use borrow.Author.Tests.{ltb-false}
 use lib.Dec.{ltb}
 use lib.IntN.{ℤ}
 use lib.ListN.{length, drop, length-append, length-drop}
-use lib.Seq.{take-at, drop-at}
+use lib.Seq.{sets, take-at, drop-at}
+use Rattle.octets.proofs.Logic.{never}
 use Rattle.refusal.specs.Outcome.{Outcome, gave, refuse}
 use Rattle.twcc.specs.Block.{listed}
-use Rattle.lent.specs.After.{after}
+use Rattle.lent.specs.Fills.{held}
+use Rattle.lent.proofs.Laws.{sets-over}
 use Rattle.twcc_read.specs.Promise.{readAnswer, Reads}
 use Rattle.twcc_read.specs.declared.Listed.{Listed}
 use Rattle.twcc_read.specs.declared.Reading.{Reading}
@@ -20,8 +22,8 @@ use Rattle.twcc_read.specs.Within.{FrontSet, KeepsWithin}
 
 given : {n room : ℕ} {x l : Listed} (b₁ b₂ : Bool) (values values′ : List ℕ) → ltb room n ≡ b₂
     → gave l ≡ cond b₁ (refuse 1 values) (cond b₂ (refuse 15 values′) (gave x)) → (l ≡ x) × (n ≤ room)
-given true b₂ values values′ test is = let z : _≡_ {A = ℕ} 0 1 = cc in absurd (omega arith)
-given false true values values′ test is = let z : _≡_ {A = ℕ} 0 1 = cc in absurd (omega arith)
+given true b₂ values values′ test is = never (cc)
+given false true values values′ test is = never (cc)
 given false false values values′ test is = (cc, ltb-false _ _ test)
 
 answered : (block : List ℕ) (room : ℕ) (l : Listed) → gave l ≡ readAnswer block room
@@ -44,7 +46,7 @@ pub read-within : (block : List ℕ) (old : List ℤ) (r : Reading) (new : List 
 read-within block old (Block l) new reads =
     let known = answered block (length old) l (reads .answer) in
     let is : new ≡ listed block ++ drop (length (listed block)) old =
-    reads .list ∙ ap (λ (o : Outcome Listed). after o (listed block) old) (sym (reads .answer)) in
+    reads .memory ∙ ap (λ (o : Outcome Listed). held o (sets old 0 (listed block)) old) (sym (reads .answer)) ∙ sets-over (listed block) old (known .1) in
     (known .0, rw is (kept (listed block) old (known .1)))
 read-within block old (No r) new reads =
-    reads .list ∙ ap (λ (o : Outcome Listed). after o (listed block) old) (sym (reads .answer))
+    reads .memory ∙ ap (λ (o : Outcome Listed). held o (sets old 0 (listed block)) old) (sym (reads .answer))

@@ -2,17 +2,16 @@
 use Prim.Native.Nat.{ℕ, _≤_, _<_}
 use mathlib.Core.Path.{_≡_, refl, sym, ap, _∙_}
 use mathlib.Core.List.{List}
-use native.Mathlib.Nat.{zero-add}
 use native.Mathlib.Omega.{arith}
 use borrow.Author.Tests.{lt-ltb, le-ltb}
 use lib.IntN.{ℤ}
 use lib.ListN.{length, drop}
-use lib.Seq.{sets, sets-eq}
-use Rattle.refusal.specs.Outcome.{Outcome, gave}
+use lib.Seq.{sets}
+use Rattle.refusal.specs.Outcome.{gave}
 use Rattle.refusal.specs.Number.{no}
 use Rattle.refusal.specs.declared.Refusal.{Refusal}
 use Rattle.refusal.specs.declared.Refusal.the-variants.{Truncated, OutputTooSmall}
-use Rattle.lent.specs.After.{after}
+use Rattle.lent.proofs.Filling.{refuses, gives}
 use Rattle.twcc.specs.Block.{statusCount, symbols, blockSymbols, listed, deltasStart}
 use Rattle.twcc.proofs.Reading.{listed-count, deltas-there}
 use Rattle.twcc_cursors.specs.Cursors.{headerOf, countsOf}
@@ -24,9 +23,8 @@ use Rattle.twcc_read.specs.declared.Listed.{Listed}
 use Rattle.twcc_read.specs.declared.Reading.the-variants.{Block, No}
 
 module _ (block : List ℕ) (old : List ℤ) where
-  -- a refusal leaves the list
-  reads-none : (r : Refusal) → no r ≡ readAnswer block (length old) → Reads block old (No r) old
-  reads-none r is = record { answer = is; list = ap (λ (o : Outcome Listed). after o (listed block) old) is }
+  reads-none : (r : Refusal) → readAnswer block (length old) ≡ no r → Reads block old (No r) old
+  reads-none r is = refuses (No r) _ _ refl is
 
   pub reads-short : (r : Refusal) → length block < 8 → r ≡ Truncated 8 (length block) → Reads block old (No r) old
   unfolding readAnswer
@@ -61,7 +59,6 @@ module _ (block : List ℕ) (old : List ℤ) where
       reads-done new filled =
           let l : Listed = record { header = header; count = counts .listed } in
           let enough : length (listed block) ≤ length old = omega (arith, count-listed) in
-          let front = rw zero-add at (sets-eq (listed block) old 0 (omega arith)) in
           let is : gave l ≡ readAnswer block (length old) =
           simp (le-ltb _ _ long, le-ltb _ _ enough) (λ i. gave (record { header = head i; count = count-listed i })) in
-          record { answer = is; list = words-set new filled ∙ front ∙ ap (λ (o : Outcome Listed). after o (listed block) old) is }
+          gives (Block l) l refl (sym is) (words-set new filled)

@@ -1,4 +1,4 @@
--- Runs: n times the same symbol, and words that are stored one by one.
+-- Runs: n times the same symbol.
 use Prim.Native.Nat.{ℕ, zero, suc, _+_, _-_, _*_, _≤_, _<_}
 use mathlib.Core.Path.{_≡_, refl, sym, ap, ap₂, _∙_}
 use mathlib.Core.List.{List, [], _∷_, _++_}
@@ -13,35 +13,6 @@ use Rattle.twcc.proofs.Entries.{length-entries}
 use Rattle.twcc.proofs.Written.{bytes-symbol}
 use Rattle.twcc_read.specs.Filled.{Filled}
 use Rattle.twcc_read.proofs.Filling.{sets-all, Filling, filling-part, EachFilling, each-start, each-there, each-over}
-
--- ---- words stored one by one: j of the n words stand from place k on
-
-pub record Setting (old : List ℤ) (k : ℕ) (words : List ℤ) (n : ℕ) (list : List ℤ) (j : ℕ) : Type 0 where
-  pub all : length words ≡ n
-  pub within : j ≤ n
-  pub same : length list ≡ length old
-  pub left : sets list (k + j) (drop j words) ≡ sets old k words
-
-pub setting-start : (old : List ℤ) (k : ℕ) (words : List ℤ) (n : ℕ) → length words ≡ n → Setting old k words n old 0
-setting-start old k words n all = record { all = all; within = omega arith; same = refl; left = ap (λ (m : ℕ). sets old m words) (add-zero k) }
-
-pub setting-turn : {old words list : List ℤ} {k n j : ℕ} (word none : ℤ) → word ≡ getD words j none → j < n
-    → Setting old k words n list j → Setting old k words n (set list (k + j) word) (j + 1)
-setting-turn {old} {words} {list} {k} {n} {j} word none is more s =
-    let place : k + (j + 1) ≡ suc (k + j) = omega arith in
-    let inside : j < length words = omega arith in
-    let front : drop j words ≡ word ∷ drop (suc j) words = rw is (drop-cons words j none inside) in
-    record {
-      all = s .all;
-      within = omega arith;
-      same = length-set list (k + j) word ∙ s .same;
-      left = rw (place, add-one j) (rw front at (s .left));
-    }
-
-pub setting-over : {old words list : List ℤ} {k n j : ℕ} → n ≤ j → Setting old k words n list j → list ≡ sets old k words
-setting-over {old} {words} {list} {k} {n} {j} none s =
-    let over : length words ≤ j = omega arith in
-    rw (drop-of-length-le words over) at (s .left)
 
 -- ---- a run whose delta bytes are there
 

@@ -1,9 +1,10 @@
 -- No slack: two outcomes of `read` that meet its promise are equal, the list included.
-use mathlib.Core.Path.{_≡_, sym, ap, _∙_}
+use mathlib.Core.Path.{_≡_, ap}
 use mathlib.Core.List.{List}
 use Prim.Native.Nat.{ℕ}
 use lib.IntN.{ℤ}
 use Rattle.refusal.proofs.Unique.{no-unique}
+use Rattle.lent.proofs.Unique.{fills-unique}
 use Rattle.twcc_read.specs.Promise.{saidReading, Reads}
 use Rattle.twcc_read.specs.declared.Listed.{Listed}
 use Rattle.twcc_read.specs.declared.Reading.{Reading}
@@ -15,7 +16,5 @@ reading-unique (Block l) (No r) same = cc
 reading-unique (No r) (Block l) same = cc
 reading-unique (No r) (No q) same = ap No (no-unique {A = Listed} r q same)
 
-pub read-unique : (block : List ℕ) (old : List ℤ) (a b : Reading) (new new′ : List ℤ) → Reads block old a new → Reads block old b new′
-    → (a ≡ b) × (new ≡ new′)
-read-unique block old a b new new′ one two =
-    (reading-unique a b (one .answer ∙ sym (two .answer)), one .list ∙ sym (two .list))
+pub read-unique : (block : List ℕ) (old : List ℤ) {a b : Reading} {new other : List ℤ} → Reads block old a new → Reads block old b other → (a ≡ b) × (new ≡ other)
+read-unique block old one two = fills-unique reading-unique one two

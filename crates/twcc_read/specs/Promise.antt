@@ -1,6 +1,5 @@
 -- What `read` promises of its answer and of the whole lent list.
 use Prim.Native.Nat.{ℕ}
-use mathlib.Core.Path.{_≡_}
 use mathlib.Core.List.{List, [], _∷_}
 use mathlib.Core.Bool.{cond}
 use lib.Dec.{ltb}
@@ -8,7 +7,7 @@ use lib.IntN.{ℤ}
 use lib.ListN.{length}
 use Rattle.refusal.specs.Outcome.{Outcome, gave, refuse}
 use Rattle.refusal.specs.Number.{no}
-use Rattle.lent.specs.After.{after}
+use Rattle.lent.specs.Fills.{Fills}
 use Rattle.twcc.specs.Block.{listed}
 use Rattle.twcc_cursors.specs.Cursors.{headerOf}
 use Rattle.twcc_read.specs.declared.Listed.{Listed}
@@ -26,9 +25,5 @@ readAnswer block room =
     (cond (ltb room (length (listed block))) (refuse 15 (length (listed block) ∷ room ∷ []))
     (gave (record { header = headerOf block; count = length (listed block) })))
 
-abbrev pub readList : List ℕ → List ℤ → List ℤ
-readList block old = after (readAnswer block (length old)) (listed block) old
-
-pub record Reads (block : List ℕ) (old : List ℤ) (r : Reading) (new : List ℤ) : Type 0 where
-  pub answer : saidReading r ≡ readAnswer block (length old)
-  pub list : new ≡ readList block old
+abbrev pub Reads : List ℕ → List ℤ → Reading → List ℤ → Type 0
+Reads block old = Fills saidReading (readAnswer block (length old)) 0 (listed block) old

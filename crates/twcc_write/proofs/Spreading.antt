@@ -10,8 +10,9 @@ use lib.Dec.{eqb}
 use lib.IntN.{ℤ, pos}
 use lib.ListN.{length, take, set, length-append, length-map, length-take}
 use lib.Seq.{sets, set-set, set-comm, take-suc, take-take, getD-take, getD-set-other}
+use Rattle.octets.specs.Big.{beBytes}
 use Rattle.lent.proofs.Laws.{sets-append}
-use Rattle.twcc.specs.Words.{symbolOf, bits16, bytesFor, deltaBytes, deltas}
+use Rattle.twcc.specs.Words.{symbolOf, bits16, deltaBytes, deltas}
 use Rattle.twcc.specs.Chunks.{Below}
 use Rattle.octets.proofs.Logic.{by-test}
 use Rattle.twcc.proofs.Written.{symbol-lt, symbols-lt, length-delta, length-deltas}
@@ -63,13 +64,12 @@ over-two l p a b (x ∷ xs) some =
 
 module _ (list : List ℤ) (n : ℕ) (old : List ℕ) (at end symbol bits first : ℕ) (is : symbol ≡ symbolOf (wordAt list n)) (low : bits ≡ bits16 (wordAt list n))
     (leads : first ≡ cond (eqb symbol 2) (bits / 256) (bits % 256)) (room : at + 2 ≤ end) where
-  own-bytes : (s : ℕ) → symbol ≡ s → deltaBytes (wordAt list n) ≡ bytesFor s bits
+  own-bytes : (s : ℕ) → symbol ≡ s → deltaBytes (wordAt list n) ≡ beBytes s bits
   unfolding deltaBytes
-  own-bytes s e = ap₂ bytesFor (sym is ∙ e) (sym low)
+  own-bytes s e = ap₂ beBytes (sym is ∙ e) (sym low)
 
   by-symbol : (s : ℕ) → symbol ≡ s → (xs : List ℕ) → at + symbol + length xs ≡ end
       → sets (set (set old at first) (at + 1) (bits % 256)) (at + symbol) xs ≡ sets old at (deltaBytes (wordAt list n) ++ xs)
-  unfolding bytesFor
   by-symbol zero e xs ends =
       let place : at + symbol ≡ at = omega arith in
       rw (place, add-one at, own-bytes 0 e) (over-two old at first (bits % 256) xs (omega arith))
@@ -97,7 +97,7 @@ module _ (list : List ℤ) (n : ℕ) (old : List ℕ) (at end symbol bits first 
 module _ (list : List ℤ) (n : ℕ) (old : List ℕ) (at end symbol bits : ℕ) (is : symbol ≡ symbolOf (wordAt list n)) (low : bits ≡ bits16 (wordAt list n)) (one-bit : symbol < 2)
     (room : at + 1 ≤ end) where
   by-bit : (s : ℕ) → symbol ≡ s → (xs : List ℕ) → at + symbol + length xs ≡ end → sets (set old at (bits % 256)) (at + symbol) xs ≡ sets old at (deltaBytes (wordAt list n) ++ xs)
-  unfolding deltaBytes bytesFor
+  unfolding deltaBytes
   by-bit zero e xs ends =
       let place : at + symbol ≡ at = omega arith in
       rw (place, sym is ∙ e) (over-one old at (bits % 256) xs (omega arith))

@@ -9,7 +9,7 @@ use lib.IntN.{ℤ, pos}
 use lib.ListN.{length, take, drop, set, length-append}
 use lib.Seq.{sets, drop-cons}
 use Rattle.lent.proofs.Laws.{sets-append}
-use Rattle.twcc.specs.Words.{symbolOf, bits16, bytesFor, deltaBytes, deltas}
+use Rattle.twcc.specs.Words.{symbolOf, bits16, deltaBytes, deltas}
 use Rattle.twcc.proofs.Written.{symbol-lt, length-delta}
 use Rattle.twcc_write.specs.Stores.{wordAt, DeltaStored, Storable, Stored}
 
@@ -17,16 +17,16 @@ use Rattle.twcc_write.specs.Stores.{wordAt, DeltaStored, Storable, Store
 
 module _ (list : List ℤ) (n : ℕ) (old : List ℕ) (at symbol : ℕ) (is : symbol ≡ symbolOf (wordAt list n)) where
   pub none-stored : symbol ≡ 0 → DeltaStored list n old at at old
-  unfolding deltaBytes bytesFor
+  unfolding deltaBytes
   none-stored e = record { next = omega arith; bytes = rw (sym is ∙ e) }
 
   module _ (bits : ℕ) (low : bits ≡ bits16 (wordAt list n)) where
     pub small-stored : symbol ≡ 1 → DeltaStored list n old at (at + 1) (set old at bits)
-    unfolding deltaBytes bytesFor
+    unfolding deltaBytes
     small-stored e = record { next = omega arith; bytes = rw (sym is ∙ e, low) }
 
     pub large-stored : (symbol ≡ 0 → ⊥) → (symbol ≡ 1 → ⊥) → DeltaStored list n old at (at + 2) (set (set old at (bits / 256)) (at + 1) (bits % 256))
-    unfolding deltaBytes bytesFor
+    unfolding deltaBytes
     large-stored some more =
         let two : symbolOf (wordAt list n) ≡ 2 = omega (arith, symbol-lt (wordAt list n)) in
         record { next = omega arith; bytes = rw (two, low, add-one at) }

@@ -1,6 +1,5 @@
 -- When a block is written, test by test in the order of docs/RULES.md, and what the lent buffer then holds.
 use Prim.Native.Nat.{ℕ}
-use mathlib.Core.Path.{_≡_}
 use mathlib.Core.List.{List, [], _∷_}
 use mathlib.Core.Option.{Option}
 use mathlib.Core.Bool.{cond}
@@ -9,7 +8,7 @@ use lib.IntN.{ℤ}
 use lib.ListN.{length}
 use Rattle.refusal.specs.Outcome.{Outcome, gave, refuse}
 use Rattle.refusal.specs.Number.{no}
-use Rattle.lent.specs.After.{after}
+use Rattle.lent.specs.Fills.{Fills}
 use Rattle.twcc.specs.Time.{tooLate}
 use Rattle.twcc_plan.specs.Block.{mostEntries, firstBad, takenOf, sizeOf, blockBytes}
 use Rattle.twcc_write.specs.Limits.{leastOf}
@@ -32,6 +31,5 @@ written time list limit room =
     (gave (record { bytes = sizeOf limit list; taken = takenOf limit list }))))))
 
 -- the promise of `write`: the answer, and the whole buffer
-pub record Wrote (base time feedback : ℕ) (list : List ℤ) (limit : Option ℕ) (old : List ℕ) (answer : Written) (new : List ℕ) : Type 0 where
-  pub said : saidWritten answer ≡ written time list limit (length old)
-  pub holds : new ≡ after (written time list limit (length old)) (blockBytes base time feedback limit list) old
+abbrev pub Wrote : ℕ → ℕ → ℕ → List ℤ → Option ℕ → List ℕ → Written → List ℕ → Type 0
+Wrote base time feedback list limit old = Fills saidWritten (written time list limit (length old)) 0 (blockBytes base time feedback limit list) old

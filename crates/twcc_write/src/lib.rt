@@ -322,9 +322,10 @@ fn put_header(base: Seq, count: usize, time: RefTime, feedback: u8, out: &mut [u
     out[1] = (number % 256) as u8;
     out[2] = (count / 256) as u8;
     out[3] = (count % 256) as u8;
+    let low = bits % 65536;
     out[4] = (bits / 65536) as u8;
-    out[5] = (bits / 256 % 256) as u8;
-    out[6] = (bits % 256) as u8;
+    out[5] = (low / 256) as u8;
+    out[6] = (low % 256) as u8;
     out[7] = feedback;
 }
 

@@ -70,14 +70,14 @@ fn runs<T: PartialEq>(elements: &[T]) -> impl Iterator<Item = &[T]> {
 }
 
 /// One case, apart from what has to be said.
-#[derive(Clone, Default)]
+#[derive(Clone, Copy, Default)]
 pub struct Case<'a> {
     /// The call's plain parameters.
     pub numbers: &'a [i128],
     /// What it may only read.
     pub read: Option<Memory<'a>>,
     /// What it may write as it was before, and the answer that has to replace its front.
-    pub lent: Vec<(Memory<'a>, Memory<'a>)>,
+    pub lent: [Option<(Memory<'a>, Memory<'a>)>; 2],
     /// A word for cases that a sample is to tell apart though they have the same outcome.
     pub kind: &'static str,
 }
@@ -100,9 +100,9 @@ impl<'a> Case<'a> {
         Case { read, ..self }
     }
 
-    pub fn lent(mut self, before: Memory<'a>, answer: Memory<'a>) -> Self {
-        self.lent.push((before, answer));
-        self
+    pub fn lent(self, before: Memory<'a>, answer: Memory<'a>) -> Self {
+        let lent = [Some((before, answer)), self.lent[0]];
+        Case { lent, ..self }
     }
 
     pub fn kind(self, kind: &'static str) -> Self {
@@ -111,7 +111,7 @@ impl<'a> Case<'a> {
 
     /// All memory that it is given.
     fn memory(&self) -> impl Iterator<Item = Memory<'a>> + '_ {
-        let lent = self.lent.iter().map(|(before, _)| *before);
+        let lent = self.lent.iter().flatten().map(|(before, _)| *before);
         self.read.into_iter().chain(lent)
     }
 
@@ -122,7 +122,7 @@ impl<'a> Case<'a> {
 
     /// How many parts of memory the call is lent.
     pub fn parts(&self) -> usize {
-        usize::from(self.read.is_some()) + self.lent.len()
+        self.memory().count()
     }
 
     /// Whether its memory is large, though its line may be short.
@@ -137,7 +137,7 @@ impl<'a> Case<'a> {
             Memory::Store(_) => true,
             _ => (1..before.len()).contains(&answer.len()),
         };
-        self.lent.is_empty() || self.lent.iter().any(has_places)
+        self.lent[0].is_none() || self.lent.iter().flatten().any(has_places)
     }
 
     /// What the call is given.

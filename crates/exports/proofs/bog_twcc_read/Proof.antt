@@ -44,7 +44,7 @@ returns c =
     let read = c .before .before .before .before .before .before .before .before .before .before .before .before .read in
     record {
       said = c .five .ensures ∙ ap (λ (o : Outcome Listed). saidOf (listedBlock o)) (sym (ap saidReading (c .before .before .before .before .before .before .before .before .before .listed .given .1)) ∙ read .ensures .answer);
-      holds = read .ensures .list;
+      holds = read .ensures .memory;
     }
 
 same-length-2 : tie.Need-same-length-2
@@ -56,7 +56,7 @@ returns-2 c =
     let read = c .before .before .before .before .before .read in
     record {
       said = c .refused .ensures ∙ ap (λ (o : Outcome Listed). saidOf (listedBlock o)) (sym (ap saidReading (c .before .before .r .given .1)) ∙ read .ensures .answer);
-      holds = read .ensures .list;
+      holds = read .ensures .memory;
     }
 
 pub bog-twcc-read-spec : {M : Type 1} → statement M

@@ -13,7 +13,7 @@ same-length : tie.Need-same-length
 same-length c = search needs
 
 returns : tie.Need-returns
-returns c = rw (c .before .before .before .before .before .if1 .taken) (record { said = cc (c .before .before .before .write .ensures .said); holds = c .before .before .before .write .ensures .holds })
+returns c = rw (c .before .before .before .before .before .if1 .taken) (record { said = cc (c .before .before .before .write .ensures .answer); holds = c .before .before .before .write .ensures .memory })
 
 write-requires-2 : tie.Need-write-requires-2
 write-requires-2 c κs = search needs
@@ -25,7 +25,7 @@ same-length-2 : tie.Need-same-length-2
 same-length-2 c = search needs
 
 returns-2 : tie.Need-returns-2
-returns-2 c = rw (c .before .before .before .before .before .if1 .left) (record { said = cc (c .before .before .before .write2 .ensures .said); holds = c .before .before .before .write2 .ensures .holds })
+returns-2 c = rw (c .before .before .before .before .before .if1 .left) (record { said = cc (c .before .before .before .write2 .ensures .answer); holds = c .before .before .before .write2 .ensures .memory })
 
 pub bog-twcc-write-spec : {M : Type 1} → statement M
 bog-twcc-write-spec =

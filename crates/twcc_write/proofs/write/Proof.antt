@@ -1,4 +1,5 @@
 -- Each refusal comes where its test comes; a list that passes them all is written.
+use mathlib.Core.Path.{refl}
 use Prim.Native.Nat.{_≤_}
 use native.Mathlib.Omega.{arith}
 use borrow.Author.Tests.{lt-ltb, le-ltb}
@@ -8,7 +9,8 @@ use Rattle.twcc_plan.specs.Block.{firstBad, sizeOf}
 use Rattle.twcc_plan.proofs.BlockLaws.{none-bad}
 use Rattle.twcc_plan.specs.Limits.{limitOf}
 use Rattle.twcc_write.specs.Limits.{leastOf}
-use Rattle.twcc_write.proofs.Answers.{eight-within, refuses, gives}
+use Rattle.lent.proofs.Filling.{refuses}
+use Rattle.twcc_write.proofs.Answers.{eight-within, given}
 use Rattle.twcc_write.specs.Stores.{Plannable}
 use Rattle.twcc_write.specs.Promise.{written}
 use Rattle.twcc_write.proofs.Joining.{lacked, suffices}
@@ -28,18 +30,18 @@ room c = suffices _ (sizeOf (limitOf (c .before .before .before .before .before 
 
 returns : tie.Need-returns
 unfolding written
-returns c = refuses _ (simp (lt-ltb _ _ (c .if1 .taken)))
+returns c = refuses _ _ _ refl (simp (lt-ltb _ _ (c .if1 .taken)))
 
 returns-2 : tie.Need-returns-2
 unfolding written
-returns-2 c = refuses _ (simp (le-ltb _ _ (c .before .if1 .left), lt-ltb _ _ (c .if2 .taken)))
+returns-2 c = refuses _ _ _ refl (simp (le-ltb _ _ (c .before .if1 .left), lt-ltb _ _ (c .if2 .taken)))
 
 first-bad-requires : tie.Need-first-bad-requires
 first-bad-requires c κs = search needs
 
 returns-3 : tie.Need-returns-3
 unfolding written
-returns-3 c = refuses _ (simp (le-ltb _ _ (c .before .before .before .if1 .left), le-ltb _ _ (c .before .before .if2 .left), ← (c .before .first-bad .ensures), lt-ltb _ _ (c .if3 .taken)))
+returns-3 c = refuses _ _ _ refl (simp (le-ltb _ _ (c .before .before .before .if1 .left), le-ltb _ _ (c .before .before .if2 .left), ← (c .before .first-bad .ensures), lt-ltb _ _ (c .if3 .taken)))
 
 least-requires : tie.Need-least-requires
 least-requires c κs = search needs
@@ -47,7 +49,7 @@ least-requires c κs = search needs
 returns-4 : tie.Need-returns-4
 unfolding written
 returns-4 c =
-    refuses _
+    refuses _ _ _ refl
     (simp (le-ltb _ _ (c .before .before .before .before .before .if1 .left), le-ltb _ _ (c .before .before .before .before .if2 .left), ← (c .before .before .before .first-bad .ensures), le-ltb _ _ (c .before .before .if3 .left), ← (c .before .least .ensures), lt-ltb _ _ (c .if4 .taken)))
 
 lacking-requires : tie.Need-lacking-requires
@@ -58,7 +60,7 @@ unfolding written
 returns-5 c =
     let size = sizeOf (limitOf (c .before .before .before .before .before .before .before .before .before .args .limit)) (now (c .before .before .before .before .before .before .before .before .before .args .list)) in
     let room = lacked (length (now (c .before .before .before .before .before .before .before .before .before .args .out))) size _ (c .before .lacking .ensures) (c .if5 .taken) in
-    refuses _
+    refuses _ _ _ refl
     (simp (le-ltb _ _ (c .before .before .before .before .before .before .before .if1 .left), le-ltb _ _ (c .before .before .before .before .before .before .if2 .left), ← (c .before .before .before .before .before .first-bad .ensures), le-ltb _ _ (c .before .before .before .before .if3 .left), ← (c .before .before .before .least .ensures), le-ltb _ _ (c .before .before .if4 .left), lt-ltb _ _ (room .1), room .0))
 
 put-block-requires : tie.Need-put-block-requires
@@ -75,9 +77,9 @@ returns-6 : tie.Need-returns-6
 unfolding written
 returns-6 c =
     let e = c .before .before .before .before in
-    gives (plannable (e .before .before) .eight)
+    given
     (simp (le-ltb _ _ (e .before .before .before .before .before .before .before .if1 .left), le-ltb _ _ (e .before .before .before .before .before .before .if2 .left), ← (e .before .before .before .before .before .first-bad .ensures), le-ltb _ _ (e .before .before .before .before .if3 .left), ← (e .before .before .before .least .ensures), le-ltb _ _ (e .before .before .if4 .left), le-ltb _ _ (room e)))
-    (room e) (c .before .before .put-block .ensures)
+    (c .before .before .put-block .ensures)
 
 pub write-spec : {M : Type 1} → statement M
 write-spec =

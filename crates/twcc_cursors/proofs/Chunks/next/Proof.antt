@@ -17,17 +17,8 @@ sub-if3 c = search needs
 returns-3 : tie.Need-returns-3
 returns-3 c = next-short _ _ (omega arith)
 
-byte-at-requires : tie.Need-byte-at-requires
-byte-at-requires c κs = search needs
-
-add-byte-at : tie.Need-add-byte-at
-add-byte-at c = search needs
-
-byte-at-requires-2 : tie.Need-byte-at-requires-2
-byte-at-requires-2 c κs = search needs
-
-joined-requires : tie.Need-joined-requires
-joined-requires c κs = search needs
+be16-at-requires : tie.Need-be16-at-requires
+be16-at-requires c κs = search needs
 
 size-requires : tie.Need-size-requires
 size-requires c κs = search needs
@@ -38,11 +29,11 @@ lesser-requires c κs = search needs
 add-t9 : tie.Need-add-t9
 add-t9 c = search needs
 
-sub-t11 : tie.Need-sub-t11
-sub-t11 c = search needs
+sub-t10 : tie.Need-sub-t10
+sub-t10 c = search needs
 
 returns-4 : tie.Need-returns-4
-returns-4 c = taken-is _ _ _ _ _ _ (c .before .before .before .before .before .before .before .if1 .left) (omega arith) (omega arith) (c .before .size .ensures) (c .lesser .ensures) (omega arith)
+returns-4 c = taken-is _ _ _ _ _ _ (c .before .before .before .before .before .if1 .left) (omega arith) (omega arith) (c .before .size .ensures) (c .lesser .ensures) (omega arith)
 
 pub next-spec : {M : Type 1} → statement M
 next-spec =
@@ -52,12 +43,9 @@ next-spec =
     returns-2
     sub-if3
     returns-3
-    byte-at-requires
-    add-byte-at
-    byte-at-requires-2
-    joined-requires
+    be16-at-requires
     size-requires
     lesser-requires
     add-t9
-    sub-t11
+    sub-t10
     returns-4)

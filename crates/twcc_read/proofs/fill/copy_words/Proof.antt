@@ -6,18 +6,18 @@ use mir.ValLaws.{toZ-ofZ}
 use lib.IntN.{pos}
 use lib.ListN.{length}
 use borrow.Author.Needs.{needs}
-use Rattle.twcc_read.proofs.Runs.{Setting, setting-start, setting-turn, setting-over}
+use Rattle.lent.proofs.Storing.{Storing, storing-start, storing-turn, storing-over}
 use Rattle.twcc_read.proofs.fill.copy_words.Statement.{statement}
 use Rattle.twcc_read.proofs.fill.copy_words.Tie as tie
 
 abbrev Inv-loop : tie.InvT-loop
-Inv-loop from list₀ k j₀ list j = Setting list₀ k from (length from) list j
+Inv-loop from list₀ k j₀ list j = Storing list₀ k from (length from) list j
 
 abbrev μ-loop : tie.MeasureT-loop
 μ-loop from list₀ k j₀ list j = length from - j
 
 loop-holds : tie.Need-loop-holds Inv-loop μ-loop
-loop-holds c = setting-start _ _ _ _ refl
+loop-holds c = storing-start _ _ _ _ refl
 
 mul-word : tie.Need-mul-word Inv-loop μ-loop
 mul-word c = search needs
@@ -41,13 +41,13 @@ loop-less : tie.Need-loop-less Inv-loop μ-loop
 loop-less c = search needs
 
 loop-again : tie.Need-loop-again Inv-loop μ-loop
-loop-again c = setting-turn _ (pos 0) (toZ-ofZ w32 _ (record { sfits = c .word .given })) (c .before .loop-test .taken) (c .before .before .loop .inv)
+loop-again c = storing-turn _ (pos 0) (toZ-ofZ w32 _ (record { sfits = c .word .given })) (c .before .loop-test .taken) (c .before .before .loop .inv)
 
 same-length : tie.Need-same-length Inv-loop μ-loop
 same-length c = c .before .loop .inv .same
 
 returns : tie.Need-returns Inv-loop μ-loop
-returns c = setting-over (c .loop-test .left) (c .before .loop .inv)
+returns c = storing-over (c .loop-test .left) (c .before .loop .inv)
 
 pub copy-words-spec : {M : Type 1} → statement M
 copy-words-spec =

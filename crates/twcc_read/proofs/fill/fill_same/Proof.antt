@@ -9,18 +9,18 @@ use lib.Seq.{sets}
 use denote.Ref.{now}
 use lib.ListN.{replicate, length-replicate, getD-replicate}
 use borrow.Author.Needs.{needs}
-use Rattle.twcc_read.proofs.Runs.{Setting, setting-start, setting-turn, setting-over}
+use Rattle.lent.proofs.Storing.{Storing, storing-start, storing-turn, storing-over}
 use Rattle.twcc_read.proofs.fill.fill_same.Statement.{statement}
 use Rattle.twcc_read.proofs.fill.fill_same.Tie as tie
 
 abbrev Inv-loop : tie.InvT-loop
-Inv-loop list₀ k n word j₀ list j = Setting list₀ k (replicate n (toZ w32 word)) n list j
+Inv-loop list₀ k n word j₀ list j = Storing list₀ k (replicate n (toZ w32 word)) n list j
 
 abbrev μ-loop : tie.MeasureT-loop
 μ-loop list₀ k n word j₀ list j = n - j
 
 loop-holds : tie.Need-loop-holds Inv-loop μ-loop
-loop-holds c = setting-start _ _ _ _ (length-replicate _ _)
+loop-holds c = storing-start _ _ _ _ (length-replicate _ _)
 
 add-word : tie.Need-add-word Inv-loop μ-loop
 add-word c = search needs
@@ -42,7 +42,7 @@ loop-again c =
     let a = c .before .before .args in
     let l = c .before .loop in
     let more = c .loop-test .taken in
-    setting-turn _ (pos 0) (sym (getD-replicate (a .n) (l .j) (toZ w32 (ofZ w32 (a .word))) (pos 0) more)) more (l .inv)
+    storing-turn _ (pos 0) (sym (getD-replicate (a .n) (l .j) (toZ w32 (ofZ w32 (a .word))) (pos 0) more)) more (l .inv)
 
 same-length : tie.Need-same-length Inv-loop μ-loop
 same-length c = c .before .loop .inv .same
@@ -50,7 +50,7 @@ same-length c = c .before .loop .inv .same
 returns : tie.Need-returns Inv-loop μ-loop
 returns c =
     let a = c .before .before .args in
-    setting-over (c .loop-test .left) (c .before .loop .inv)
+    storing-over (c .loop-test .left) (c .before .loop .inv)
     ∙ ap (λ (word : ℤ). sets (now (a .list)) (a .k) (replicate (a .n) word)) (toZ-ofZ w32 (a .word) (c .before .before .fits .word))
 
 pub fill-same-spec : {M : Type 1} → statement M
