@@ -3,10 +3,10 @@ use Prim.Native.Nat.{ℕ, _%_}
 use mathlib.Core.Path.{_≡_, refl, sym, ap, _∙_}
 use mathlib.Core.Bool.{Bool, true, false, cond, true≢false}
 use native.Mathlib.Omega.{arith}
-use borrow.Author.Tests.{ltb-true, ltb-false, lt-ltb, le-ltb, ne-eqb}
+use borrow.Author.Tests.{ltb-true, ltb-false, lt-ltb, le-ltb, le-leb, lt-leb, ne-eqb}
 use lib.Dec.{ltb}
 use lib.IntN.{ℤ, pos, negsuc}
-use lib.Signed.{ltZ}
+use lib.Signed.{ltZ, leZ}
 use mir.Syntax.{w16, w32}
 use mir.Val.{SFits, toZ, ofZ}
 use mir.Facts.{toZ-ofZ}
@@ -23,18 +23,18 @@ pub by-no : {t : Bool} {x b : ℕ} (a : ℕ) → t ≡ false → x ≡ b → x �
 by-no a left is = rw left is
 
 abbrev pub tested : ℤ → ℕ
-tested w = cond (ltZ w (notReceived)) (cond (ltZ w (pos 0)) 2 (cond (ltZ (pos 255) w) 2 1)) 0
+tested w = cond (leZ notReceived w) 0 (cond (ltZ w (pos 0)) 2 (cond (ltZ (pos 255) w) 2 1))
 
 pub symbol-tested : (w : ℤ) → tested w ≡ symbolOf w
 unfolding symbolOf
 symbol-tested (pos n) =
     let positive : ltb n 0 ≡ false = le-ltb n 0 (omega arith) in
     by-test (ltb n 256)
-    (λ e. let few = ltb-true n 256 e in rw (lt-ltb n half (omega arith), positive, le-ltb 255 n (omega arith), e))
+    (λ e. let few = ltb-true n 256 e in rw (lt-leb half n (omega arith), positive, le-ltb 255 n (omega arith), e))
     (λ e. let many = ltb-false n 256 e in
     by-test (ltb n half)
-    (λ f. rw (f, positive, lt-ltb 255 n (omega arith), e))
-    (λ f. rw (f, e)))
+    (λ f. let few = ltb-true n half f in rw (lt-leb half n (omega arith), positive, lt-ltb 255 n (omega arith), e, f))
+    (λ f. let more = ltb-false n half f in rw (le-leb half n (omega arith), e, f)))
 symbol-tested (negsuc n) = refl
 
 -- whether it is 1, by two tests
@@ -63,11 +63,11 @@ status-low (pos n) e = absurd (true≢false (sym e))
 status-low (negsuc n) e = let many = ltb-true 32767 n e in rw (le-ltb n half (omega arith))
 
 -- between the first two tests a word fits into 16 bits
-pub delta-fits : (w : ℤ) → ltZ w (negsuc 32767) ≡ false → ltZ w (notReceived) ≡ true → SFits w16 w
+pub delta-fits : (w : ℤ) → ltZ w (negsuc 32767) ≡ false → ltZ w notReceived ≡ true → SFits w16 w
 delta-fits (pos n) low high = record { sfits = omega (arith, ltb-true n half high) }
 delta-fits (negsuc n) low high = record { sfits = omega (arith, ltb-false 32767 n low) }
 
-pub status-delta : (w : ℤ) → ltZ w (negsuc 32767) ≡ false → ltZ w (notReceived) ≡ true → Received w ≡ statusOf w
+pub status-delta : (w : ℤ) → ltZ w (negsuc 32767) ≡ false → ltZ w notReceived ≡ true → Received w ≡ statusOf w
 unfolding statusOf
 status-delta (pos n) low high = rw high
 status-delta (negsuc n) low high = let few = ltb-false 32767 n low in rw (lt-ltb n half (omega arith))
@@ -88,7 +88,7 @@ pub status-kept : (w : ℤ) → w ≡ reserved → Reserved ≡ statusOf w
 unfolding statusOf
 status-kept w is = rw is
 
-pub status-high : (w : ℤ) → ltZ w (notReceived) ≡ false → (w ≡ notReceived → ⊥) → (w ≡ truncated → ⊥) → (w ≡ reserved → ⊥) → NoStatus ≡ statusOf w
+pub status-high : (w : ℤ) → ltZ w notReceived ≡ false → (w ≡ notReceived → ⊥) → (w ≡ truncated → ⊥) → (w ≡ reserved → ⊥) → NoStatus ≡ statusOf w
 unfolding statusOf
 status-high (pos n) high lost cut kept =
     rw (high, ne-eqb n half (λ e. lost (ap pos e)), ne-eqb n 32769 (λ e. cut (ap pos e)), ne-eqb n 32770 (λ e. kept (ap pos e)))

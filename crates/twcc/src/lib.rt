@@ -69,7 +69,7 @@ pub fn symbol(word: i32) -> u32
 {
     let delta: u32 = if 255 < word { 2 } else { 1 };
     let received: u32 = if word < 0 { 2 } else { delta };
-    if word < NOT_RECEIVED { received } else { 0 }
+    if NOT_RECEIVED <= word { 0 } else { received }
 }
 
 // 1 for a small delta, else 0.

@@ -29,13 +29,13 @@ is : (c : tie.Joined2) → tested (read c) ≡ symbolOf (c .before .before .args
 is c = symbol-tested (read c) ∙ ap symbolOf (toZ-ofZ {w = w32} (c .before .before .fits .word))
 
 returns : tie.Need-returns
-returns c =
-    let k = c .before in
-    let e : k .if2 .received ≡ tested (read k) = by-yes _ (c .if3 .taken) (received k ∙ ap (λ (d : ℕ). cond (ltZ (read k) (pos 0)) 2 d) (delta k)) in
-    (e ∙ is k, omega (arith, e ∙ is k, symbol-lt (k .before .before .args .word)))
+returns c = let e : 0 ≡ tested (read (c .before)) = by-yes _ (c .if3 .taken) refl in (e ∙ is (c .before), omega arith)
 
 returns-2 : tie.Need-returns-2
-returns-2 c = let e : 0 ≡ tested (read (c .before)) = by-no _ (c .if3 .left) refl in (e ∙ is (c .before), omega arith)
+returns-2 c =
+    let k = c .before in
+    let e : k .if2 .received ≡ tested (read k) = by-no _ (c .if3 .left) (received k ∙ ap (λ (d : ℕ). cond (ltZ (read k) (pos 0)) 2 d) (delta k)) in
+    (e ∙ is k, omega (arith, e ∙ is k, symbol-lt (k .before .before .args .word)))
 
 pub symbol-spec : {M : Type 1} → statement M
 symbol-spec = tie.close (tie.spec returns returns-2)
