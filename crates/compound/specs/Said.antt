@@ -1,5 +1,4 @@
 -- The walk's answers as the promises speak of them.
-use Prim.Native.Nat.{ℕ}
 use Rattle.refusal.specs.Outcome.{Outcome, gave}
 use Rattle.refusal.specs.Number.{no}
 use Rattle.compound.specs.Walk.{Met, over, packet, Step, step}

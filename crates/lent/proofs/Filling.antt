@@ -1,8 +1,7 @@
 -- Laws of a call that fills lent memory: what its answers come to, a call on a part seen from the whole, and room for more bytes.
-use Prim.Native.Nat.{ℕ, zero, suc, _+_, _≤_, _<_}
+use Prim.Native.Nat.{ℕ, suc, _+_, _≤_}
 use mathlib.Core.Path.{_≡_, refl, sym, ap, _∙_}
 use mathlib.Core.List.{List, [], _∷_, _++_}
-use mathlib.Core.Bool.{Bool, true, false, cond}
 use native.Mathlib.Nat.{zero-add}
 use native.Mathlib.Omega.{arith}
 use borrow.Author.Tests.{lt-ltb, le-ltb, ltb-true, ltb-false}
@@ -11,7 +10,7 @@ use lib.IntN.{ℤ}
 use lib.ListN.{length, take, drop, set, length-take, take-append-drop}
 use lib.Seq.{sets}
 use Rattle.octets.proofs.Logic.{by-test}
-use Rattle.refusal.specs.Outcome.{Outcome, gave, refused, refuse}
+use Rattle.refusal.specs.Outcome.{Outcome, gave, refused}
 use Rattle.lent.specs.Fills.{Fills}
 use Rattle.lent.specs.Room.{inRoom, roomFor}
 

@@ -10,7 +10,7 @@ use lib.ListN.{length, getD, length-set, drop-of-length-le}
 use lib.Seq.{sets, sets-eq, getD-set-same, getD-set-other}
 use Rattle.lent.specs.Bytes.{zeroBytes}
 use Rattle.lent.proofs.Laws.{length-zeroBytes}
-use Rattle.nack_store.specs.Bits.{storeSize, bitOf, withBit, changedBit, added, removed, emptyStore}
+use Rattle.nack_store.specs.Bits.{storeSize, withBit, changedBit, added, removed, emptyStore}
 use Rattle.nack_store.specs.Sets.{OneBit}
 use Rattle.nack_store.proofs.Bytes.{halve, with-suc, with-zero}
 

@@ -1,6 +1,6 @@
 -- The way back: a number's bytes hold the number.
 use Prim.Native.Nat.{ℕ, zero, suc, _+_, _*_, _/_, _%_, _^_, _<_}
-use mathlib.Core.List.{List, [], _∷_, _++_}
+use mathlib.Core.List.{List, _∷_, _++_}
 use mathlib.Core.Path.{_≡_, refl, sym, ap, _∙_}
 use native.Mathlib.Nat.{zero-add, pow-suc, mul-assoc, one-le-pow, mod-lt, div-add-mod'}
 use native.Mathlib.Omega.{arith}

@@ -1,6 +1,6 @@
 -- The bytes of a block that is written: header, chunks, delta bytes, zeros to a multiple of four (the draft, 3.1).
 use Prim.Native.Nat.{ℕ, _+_, _-_}
-use mathlib.Core.List.{List, [], _∷_, _++_, map}
+use mathlib.Core.List.{List, _++_, map}
 use mathlib.Core.Option.{Option}
 use mathlib.Core.Bool.{Bool}
 use lib.Dec.{ltb, leb}

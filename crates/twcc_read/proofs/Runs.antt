@@ -3,11 +3,10 @@ use Prim.Native.Nat.{ℕ, zero, suc, _+_, _-_, _*_, _≤_, _<_}
 use mathlib.Core.Path.{_≡_, refl, sym, ap, ap₂, _∙_}
 use mathlib.Core.List.{List, [], _∷_, _++_}
 use native.Mathlib.Nat.{add-zero, zero-mul, suc-mul}
-use native.Mathlib.Numerals.{add-one}
 use native.Mathlib.Omega.{arith}
 use lib.IntN.{ℤ}
-use lib.ListN.{length, getD, drop, set, replicate, length-set, length-drop, length-replicate, getD-replicate, replicate-append-replicate, drop-of-length-le}
-use lib.Seq.{sets, drop-cons, drop-drop}
+use lib.ListN.{length, drop, set, replicate, length-drop, length-replicate, getD-replicate, replicate-append-replicate, drop-of-length-le}
+use lib.Seq.{sets, drop-drop}
 use Rattle.twcc.specs.Words.{bytesOf, widthOf, wordOf, entries, truncated}
 use Rattle.twcc.proofs.Entries.{length-entries}
 use Rattle.twcc.proofs.Written.{bytes-symbol}

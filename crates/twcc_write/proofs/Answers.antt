@@ -1,6 +1,6 @@
 -- The writer's promise, from what its ladder of tests comes to, and what it asks of its limit.
 use Prim.Native.Nat.{ℕ, _≤_}
-use mathlib.Core.Path.{_≡_, refl, sym, ap, _∙_}
+use mathlib.Core.Path.{_≡_, ap}
 use mathlib.Core.List.{List}
 use mathlib.Core.Option.{Option, none, some}
 use native.Mathlib.Omega.{arith}
@@ -8,7 +8,7 @@ use lib.IntN.{ℤ}
 use lib.ListN.{length}
 use Rattle.refusal.specs.Outcome.{gave}
 use Rattle.lent.proofs.Filling.{gives}
-use Rattle.twcc_plan.specs.Block.{takenOf, sizeOf, blockBytes}
+use Rattle.twcc_plan.specs.Block.{takenOf, sizeOf}
 use Rattle.twcc_plan.specs.Limits.{Within}
 use Rattle.twcc_write.specs.Limits.{leastOf}
 use Rattle.twcc_write.specs.Stores.{BlockStored}

@@ -5,7 +5,6 @@ use native.Mathlib.Omega.{arith}
 use borrow.Author.Needs.{needs}
 use denote.Ref.{now}
 use Rattle.refusal.specs.Outcome.{gave}
-use Rattle.utils.specs.Header.{versionOf}
 use Rattle.compound.specs.Inner.{saidTurn}
 use Rattle.compound.specs.Pass.{firstTurn}
 use Rattle.compound.proofs.Laws.{turn-on, turn-short, Passing, passing-start, passing-next, passing-no, passing-end, pass-short, pass-version}

@@ -3,9 +3,8 @@ use mathlib.Core.Path.{_≡_, refl, sym, ap, _∙_}
 use native.Mathlib.Nat.{add-zero}
 use native.Mathlib.Omega.{arith}
 use denote.Ref.{now}
-use Rattle.refusal.specs.Outcome.{gave}
 use Rattle.compound.specs.Said.{saidFound}
-use Rattle.compound.specs.Walk.{packet, step, walkStep, walkPart}
+use Rattle.compound.specs.Walk.{step, walkStep, walkPart}
 use Rattle.compound.proofs.Laws.{Handed, walk-packet}
 use Rattle.compound.specs.declared.Found.{Found}
 use borrow.Author.Needs.{needs}
