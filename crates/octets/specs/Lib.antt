@@ -1,2 +1,3 @@
 pub mod Big
+pub mod Bounds
 pub mod Signed

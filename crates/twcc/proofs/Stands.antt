@@ -8,7 +8,8 @@ use native.Mathlib.Nat.{one-le-pow, pow-succ', mul-assoc, mul-add-div-right, mul
 use borrow.Author.Tests.{lt-ltb, le-ltb}
 use lib.ListN.{length, getD, replicate, length-replicate, getD-replicate}
 use lib.Arith.{digits-lt, digits-div, digits-mod}
-use Rattle.twcc.specs.Chunks.{pack, unpack, Below, runsEnd, onesEnd, runWeight, standsFor, Run, One, Two, chunkWord}
+use Rattle.octets.specs.Bounds.{Below}
+use Rattle.twcc.specs.Chunks.{pack, unpack, runsEnd, onesEnd, runWeight, standsFor, Run, One, Two, chunkWord}
 
 -- ---- laws of digits
 

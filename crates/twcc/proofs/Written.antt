@@ -11,7 +11,8 @@ use lib.ListN.{length, take, drop, length-append}
 use Rattle.octets.proofs.Logic.{by-test}
 use Rattle.twcc.specs.Time.{latest, timeOf, timeBits}
 use Rattle.twcc.specs.Words.{half, Valid, AllValid, bytesOf, widthOf, signed16, wordOf, entries, symbolOf, bits16, deltaBytes, deltas}
-use Rattle.twcc.specs.Chunks.{Below, standsFor, chunkBytes}
+use Rattle.octets.specs.Bounds.{Below}
+use Rattle.twcc.specs.Chunks.{standsFor, chunkBytes}
 use Rattle.twcc.specs.Block.{symbols, afterChunks}
 use Rattle.twcc.proofs.Reading.{symbols-zero, symbols-cons, after-zero, after-cons}
 

@@ -1,6 +1,6 @@
 -- Status chunks (the draft, 3.1.2 to 3.1.4): the symbols that a chunk's 16 bits stand for, and the bits and the bytes of each kind
 -- of chunk. A chunk as 16 bits is called `chunk`, as what it was made of `Chunk`.
-use Prim.Native.Nat.{ℕ, zero, suc, _+_, _*_, _/_, _%_, _^_, _<_}
+use Prim.Native.Nat.{ℕ, zero, suc, _+_, _*_, _/_, _%_, _^_}
 use mathlib.Core.List.{List, [], _∷_, _++_}
 use mathlib.Core.Bool.{cond}
 use lib.Dec.{ltb}
@@ -19,11 +19,6 @@ pack base (suc n) (s ∷ ss) = s * base ^ n + pack base n ss
 unfoldable pub unpack : ℕ → ℕ → ℕ → List ℕ
 unpack base zero number = []
 unpack base (suc n) number = number / base ^ n % base ∷ unpack base n number
-
--- every symbol of the list is below the base
-abbrev pub Below : ℕ → List ℕ → Type 0
-Below base [] = Unit {0}
-Below base (s ∷ ss) = (s < base) × Below base ss
 
 -- ---- what a chunk stands for, at its full length
 

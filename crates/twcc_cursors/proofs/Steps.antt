@@ -11,6 +11,7 @@ use borrow.Author.Tests.{lt-ltb, le-ltb, eq-eqb, ne-eqb}
 use lib.IntN.{ℤ, pos}
 use lib.ListN.{length, getD, take, drop, length-drop, length-append, length-take, drop-of-length-le}
 use lib.Seq.{take-nil, drop-cons, drop-drop}
+use Rattle.octets.proofs.Logic.{never, nothing}
 use Rattle.twcc.specs.Words.{bytesOf, signed16, notReceived, truncated, reserved, wordOf}
 use Rattle.twcc.specs.Chunks.{standsFor}
 use Rattle.octets.specs.Big.{be}
@@ -68,16 +69,14 @@ HeadedIs s (answer.No r) = (length s < 8) × (r ≡ Truncated 8 (length s))
 headed-tells : (s : List ℕ) (h : Headed) → Dec (length s < 8) → saidHeaded h ≡ headed s → HeadedIs s h
 headed-tells s (answer.Header h) (yes short) said =
     let same : gave h ≡ refused (Truncated 8 (length s)) = said ∙ sym (headed-short s short) in
-    let z : _≡_ {A = ℕ} 0 1 = cc in
-    absurd (omega arith)
+    never (cc)
 headed-tells s (answer.Header h) (no long) said =
     let same : gave h ≡ gave (headerOf s) = said ∙ sym (headed-long s (headerOf s) (omega arith) refl) in
     (omega arith, cc)
 headed-tells s (answer.No r) (yes short) said = (short, no-unique {A = Header} r (Truncated 8 (length s)) (said ∙ sym (headed-short s short)))
 headed-tells s (answer.No r) (no long) said =
     let same : refused r ≡ gave (headerOf s) = said ∙ sym (headed-long s (headerOf s) (omega arith) refl) in
-    let z : _≡_ {A = ℕ} 0 1 = cc in
-    absurd (omega arith)
+    never (cc)
 
 pub headed-is : (s : List ℕ) {h k : Headed} → saidHeaded h ≡ headed s → h ≡ k → HeadedIs s k
 headed-is s {h} said is = subst (HeadedIs s) is (headed-tells s h (decLt (length s) 8) said)
@@ -236,10 +235,6 @@ abbrev pub FullIs : List ℕ → List ℕ → NextChunk → Type 0
 FullIs s ss Over = ss ≡ []
 FullIs s ss (Taken chunk n next) = IsFull s ss chunk n next
 
-no-symbols : (ss : List ℕ) → length ss ≡ 0 → ss ≡ []
-no-symbols [] none = refl
-no-symbols (x ∷ ss) none = absurd (omega arith)
-
 pub full-is : (s bytes : List ℕ) (at left : ℕ) → bytes ≡ drop at s → FullIs s (symbols bytes left) (fullChunk bytes at left)
 unfolding fullChunk
 full-is s [] at left here = symbols-short [] left (omega arith)
@@ -257,7 +252,7 @@ full-is s (a ∷ b ∷ bytes) at left here = by-left (full-is s bytes (at + 2) l
     by-size rest some (yes none) =
         let same : symbols (a ∷ b ∷ bytes) left ≡ symbols bytes left =
         symbols-cons a b bytes left
-        ∙ rw (no-symbols (standsFor chunk) none, take-nil) (ap (symbols bytes) (omega arith)) in
+        ∙ rw (nothing (standsFor chunk) none, take-nil) (ap (symbols bytes) (omega arith)) in
         rw (ne-eqb left 0 some, eq-eqb (length (standsFor chunk)) 0 none, same) rest
     by-size rest some (no lists) =
         rw (ne-eqb left 0 some, ne-eqb (length (standsFor chunk)) 0 lists)

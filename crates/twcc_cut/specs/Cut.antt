@@ -7,7 +7,7 @@ use lib.IntN.{ℤ}
 use lib.ListN.{length, drop}
 use Rattle.kinds.specs.Seq.{later}
 use Rattle.twcc.specs.Time.{latest}
-use Rattle.twcc.specs.Chunks.{Below}
+use Rattle.octets.specs.Bounds.{Below}
 use Rattle.twcc.specs.Block.{baseOf, referenceTime, feedbackCount, listed}
 use Rattle.twcc_plan.specs.Block.{takenOf, blockBytes}
 use Rattle.twcc_plan.specs.Limits.{Within, Wide}

@@ -17,7 +17,8 @@ use Rattle.octets.specs.Big.{be}
 use Rattle.octets.proofs.Logic.{by-test}
 use Rattle.twcc.proofs.Written.{time-back, time-bits, symbols-lt, length-deltas, entries-back, symbols-back, after-back}
 use Rattle.twcc.specs.Words.{half, Valid, AllValid, symbolOf, bits16, deltaBytes, deltas, widthOf}
-use Rattle.twcc.specs.Chunks.{Below, Chunk, chunkWord, chunkBytes}
+use Rattle.octets.specs.Bounds.{Below}
+use Rattle.twcc.specs.Chunks.{Chunk, chunkWord, chunkBytes}
 use Rattle.twcc.specs.Block.{baseOf, statusCount, referenceTime, feedbackCount, blockSymbols, blockDeltas, listed}
 use Rattle.twcc_plan.specs.Front.{front}
 use Rattle.twcc_plan.specs.Choice.{takenBy, widthBy}

@@ -17,7 +17,8 @@ use lib.Seq.{take-suc, getD-take}
 use mir.Syntax.{w32}
 use mir.Val.{SFits, ofZ, toZ}
 use Rattle.twcc.specs.Words.{half, symbolOf, widthOf}
-use Rattle.twcc.specs.Chunks.{runsEnd, longestRun, Below, pack}
+use Rattle.octets.specs.Bounds.{Below}
+use Rattle.twcc.specs.Chunks.{runsEnd, longestRun, pack}
 use Rattle.twcc.proofs.Stands.{pack-lt}
 use Rattle.octets.proofs.Logic.{by-test}
 use Rattle.twcc.proofs.Written.{bytes-symbol}

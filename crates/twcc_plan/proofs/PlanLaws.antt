@@ -13,7 +13,8 @@ use lib.Dec.{ltb, leb, eqb}
 use lib.ListN.{length, take, drop, replicate, length-take, length-drop, length-replicate}
 use lib.Seq.{drop-nil, take-all, take-add, take-nil}
 use Rattle.twcc.specs.Words.{widthOf}
-use Rattle.twcc.specs.Chunks.{Below, Chunk, Run, One, Two, chunkWord, standsFor}
+use Rattle.octets.specs.Bounds.{Below}
+use Rattle.twcc.specs.Chunks.{Chunk, Run, One, Two, chunkWord, standsFor}
 use Rattle.twcc.proofs.Stands.{padTo, length-padTo, pack-lt, run-back, one-back, two-back}
 use Rattle.twcc.proofs.Entries.{width-append}
 use Rattle.octets.proofs.Logic.{by-test}

@@ -7,6 +7,7 @@ use native.Mathlib.Omega.{arith}
 use lib.IntN.{ℤ}
 use lib.ListN.{length, drop, length-drop, length-map, drop-of-length-le}
 use lib.Seq.{sets, drop-drop, length-sets}
+use Rattle.octets.proofs.Logic.{never}
 use Rattle.octets.specs.Big.{beBytes}
 use Rattle.lent.proofs.Laws.{sets-append}
 use Rattle.twcc.specs.Words.{symbolOf}
@@ -58,13 +59,13 @@ planning-start list limit out =
 -- a step that is taken is that of some chunk
 step-some : (o : Option Chunk) (p : Picked) → Take p ≡ stepOf o → (c : Chunk) × (o ≡ some c) × (p ≡ picked c)
 unfolding stepOf
-step-some none p e = absurd (let z : _≡_ {A = ℕ} 0 1 = cc in omega arith)
+step-some none p e = never (cc)
 step-some (some c) p e = (c, refl, cc)
 
 step-none : (o : Option Chunk) → Stop ≡ stepOf o → o ≡ none
 unfolding stepOf
 step-none none e = refl
-step-none (some c) e = absurd (let z : _≡_ {A = ℕ} 0 1 = cc in omega arith)
+step-none (some c) e = never (cc)
 
 module _ {list : List ℤ} {limit : Option ℕ} {out₀ out : List ℕ} {chunks used taken : ℕ} (planning : Planning list limit out₀ out chunks used taken) where
   abbrev here : List ℕ

@@ -9,7 +9,8 @@ use native.Mathlib.Omega.{arith}
 use borrow.Author.Tests.{ltb-true, ltb-false, leb-true, leb-false, eqb-true, lt-ltb, le-ltb, le-leb, lt-leb, eq-eqb, ne-eqb}
 use lib.Dec.{ltb, leb, eqb}
 use lib.ListN.{length, getD, take, drop, replicate}
-use Rattle.twcc.specs.Chunks.{onesEnd, longestRun, Below, pack, unpack}
+use Rattle.octets.specs.Bounds.{Below}
+use Rattle.twcc.specs.Chunks.{onesEnd, longestRun, pack, unpack}
 use Rattle.twcc.proofs.Stands.{pack-lt, padTo, unpack-pack}
 use Rattle.octets.proofs.Logic.{by-test}
 use Rattle.twcc_plan.specs.Front.{front}

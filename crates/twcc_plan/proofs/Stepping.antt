@@ -10,7 +10,8 @@ use lib.IntN.{ℤ}
 use lib.ListN.{length, take, drop, length-take, length-drop, length-map}
 use lib.Seq.{take-all}
 use Rattle.twcc.specs.Words.{symbolOf}
-use Rattle.twcc.specs.Chunks.{runsEnd, runWeight, longestRun, Below, Chunk, Run, One, Two, chunkWord}
+use Rattle.octets.specs.Bounds.{Below}
+use Rattle.twcc.specs.Chunks.{runsEnd, runWeight, longestRun, Chunk, Run, One, Two, chunkWord}
 use Rattle.octets.proofs.Logic.{by-test}
 use Rattle.twcc.proofs.Written.{symbols-lt}
 use Rattle.twcc_plan.specs.Choice.{chunkFor, takenBy, widthBy}

@@ -5,7 +5,8 @@ use mathlib.Core.List.{List, [], _∷_}
 use mathlib.Core.Option.{Option}
 use lib.Dec.{eqb}
 use lib.ListN.{length, take, drop}
-use Rattle.twcc.specs.Chunks.{Below, longestRun, Chunk, Run, One, Two}
+use Rattle.octets.specs.Bounds.{Below}
+use Rattle.twcc.specs.Chunks.{longestRun, Chunk, Run, One, Two}
 use Rattle.twcc_plan.specs.Front.{front}
 use Rattle.twcc_plan.specs.Choice.{takenBy, widthBy}
 use Rattle.twcc_plan.specs.Limits.{Within, upFour}

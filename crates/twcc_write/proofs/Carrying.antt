@@ -9,7 +9,8 @@ use lib.IntN.{ℤ}
 use lib.ListN.{length, getD, take, drop, replicate, length-append, length-take, length-drop, length-map}
 use lib.Seq.{sets, take-take, drop-drop}
 use Rattle.twcc.specs.Words.{symbolOf, deltas}
-use Rattle.twcc.specs.Chunks.{runsEnd, onesEnd, runWeight, Chunk, Run, One, Two, Below, chunkWord, standsFor, chunkBytes}
+use Rattle.octets.specs.Bounds.{Below}
+use Rattle.twcc.specs.Chunks.{runsEnd, onesEnd, runWeight, Chunk, Run, One, Two, chunkWord, standsFor, chunkBytes}
 use Rattle.twcc.proofs.Written.{symbols-lt}
 use Rattle.twcc_plan.specs.Choice.{takenBy, widthBy}
 use Rattle.twcc_plan.specs.Plan.{takenIn}

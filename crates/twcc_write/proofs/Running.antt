@@ -1,11 +1,12 @@
 -- The deltas of a run: every word has its symbol, so its bytes are known beforehand.
 use Prim.Native.Nat.{ℕ, _+_, _*_, _/_, _%_, _≤_, _<_}
 use mathlib.Core.Path.{_≡_, refl, sym, ap, _∙_}
-use mathlib.Core.List.{List, [], _∷_, map}
+use mathlib.Core.List.{List, map}
 use native.Mathlib.Omega.{arith}
 use lib.IntN.{ℤ, pos}
 use lib.ListN.{length, getD, take, set, replicate, length-set, getD-replicate}
 use lib.Seq.{getD-take}
+use Rattle.octets.proofs.Logic.{nothing}
 use Rattle.twcc.specs.Words.{symbolOf, bits16, deltas, widthOf}
 use Rattle.twcc.specs.Chunks.{runsEnd, runWeight}
 use Rattle.twcc.proofs.Written.{length-deltas}
@@ -48,10 +49,6 @@ module _ {list : List ℤ} {entries : ℕ} {out₀ out : List ℕ} {at n bits : 
 
 -- ---- a chunk's deltas, by what it was tested for
 
-none-left : (xs : List ℕ) → length xs ≡ 0 → xs ≡ []
-none-left [] e = refl
-none-left (x ∷ xs) e = absurd (omega arith)
-
 module _ {list : List ℤ} {chunk entries : ℕ} {out : List ℕ} {at : ℕ} (ready : ChunkStorable list chunk entries out at) where
   pub chunk-run : (symbol : ℕ) → chunk < runsEnd → chunk / runWeight ≡ symbol → RunStorable list symbol entries out at
   chunk-run symbol is-run is =
@@ -60,7 +57,7 @@ module _ {list : List ℤ} {chunk entries : ℕ} {out : List ℕ} {at : ℕ} (re
   pub lost-stored : (end : ℕ) → chunk < runWeight → Spread list entries out at end at out
   lost-stored end lost =
       let none = run-width (chunk-run 0 (omega arith) (omega arith)) (omega arith) in
-      let bytes = none-left (deltas (take entries list)) (omega (arith, none)) in
+      let bytes = nothing (deltas (take entries list)) (omega (arith, none)) in
       exact-spread (omega (arith, none)) (rw bytes)
 
   pub small-spread : (end : ℕ) {new : List ℕ} → runWeight ≤ chunk → chunk < 2 * runWeight → Stored list entries out at new → Spread list entries out at end (at + entries) new

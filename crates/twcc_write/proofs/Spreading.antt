@@ -13,7 +13,7 @@ use lib.Seq.{sets, set-set, set-comm, take-suc, take-take, getD-take, getD-set-o
 use Rattle.octets.specs.Big.{beBytes}
 use Rattle.lent.proofs.Laws.{sets-append}
 use Rattle.twcc.specs.Words.{symbolOf, bits16, deltaBytes, deltas}
-use Rattle.twcc.specs.Chunks.{Below}
+use Rattle.octets.specs.Bounds.{Below}
 use Rattle.octets.proofs.Logic.{by-test}
 use Rattle.twcc.proofs.Written.{symbol-lt, symbols-lt, length-delta, length-deltas}
 use Rattle.twcc_plan.proofs.PlanLaws.{below-take, width-le}

@@ -8,7 +8,8 @@ use lib.ListN.{length, getD, take, replicate}
 use lib.Seq.{sets}
 use Rattle.twcc.specs.Time.{latest}
 use Rattle.twcc.specs.Words.{Valid, AllValid, symbolOf, deltaBytes, deltas}
-use Rattle.twcc.specs.Chunks.{runsEnd, onesEnd, runWeight, Chunk, Below, chunkWord, chunkBytes}
+use Rattle.octets.specs.Bounds.{Below}
+use Rattle.twcc.specs.Chunks.{runsEnd, onesEnd, runWeight, Chunk, chunkWord, chunkBytes}
 use Rattle.twcc_plan.specs.Plan.{takenIn}
 use Rattle.twcc_plan.specs.Block.{mostEntries, takenOf, sizeOf, blockBytes}
 use Rattle.twcc_plan.specs.Limits.{Within}

@@ -18,7 +18,7 @@ ghost use lib.ListN.{length, getD, take, drop};
 ghost use lib.Seq.{sets};
 ghost use Rattle.twcc.specs.Time.{latest, timeBits};
 ghost use Rattle.twcc.specs.Words.{Valid, symbolOf, bits16, deltas};
-ghost use Rattle.twcc.specs.Chunks.{Below};
+ghost use Rattle.octets.specs.Bounds.{Below};
 ghost use Rattle.twcc_plan.specs.Block.{header, sizeOf};
 ghost use Rattle.twcc_plan.specs.Limits.{limitOf};
 ghost use Rattle.twcc_write.specs.Limits.{leastOf, limitWithin};
