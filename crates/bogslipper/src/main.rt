@@ -10,8 +10,6 @@ mod numbers;
 mod packets;
 mod words;
 
-ghost use mathlib.Core.Path.{_≡_};
-ghost use Prim.Native.Nat.{min};
 use ask::Asked;
 use ask::Count;
 use input::Input;
@@ -133,16 +131,10 @@ fn within(
     let Input::Bytes(size) = read(path, hex, bytes) else {
         return TROUBLE;
     };
-    let whole = lesser(size, bytes.len());
-    let start = lesser(skip, whole);
-    let end = start + lesser(take, whole - start);
+    let whole = octets::lesser(size, bytes.len());
+    let start = octets::lesser(skip, whole);
+    let end = start + octets::lesser(take, whole - start);
     print(report, &bytes[start..end])
-}
-
-fn lesser(a: usize, b: usize) -> usize
-    ensures { λ r. ⌜ r ≡ min a b ⌝ }
-{
-    if a < b { a } else { b }
 }
 
 fn read(path: &[u8], hex: bool, bytes: &mut [u8]) -> Input {
