@@ -1,7 +1,7 @@
 //! Runs the program `replay` on its recording, and on recordings that are damaged: it says what is wrong, and on which line.
 
 use std::fs;
-use std::path::Path;
+use std::path::{Path, PathBuf};
 use std::process::Command;
 
 use command_tests::root;
@@ -26,13 +26,19 @@ fn marked(line: &str, mark: char) -> String {
     format!("{}{mark}{}", &line[..20], &line[21..])
 }
 
+/// The program, built where it is out of date.
+fn program() -> PathBuf {
+    let built = Command::new(root().join(".ci/built")).arg("replay").status();
+    assert!(built.expect(".ci/built starts").success());
+    root().join("target/bin/replay")
+}
+
 /// What the program prints on a text.
 fn replay(name: &str, text: &str) -> String {
     let path = Path::new(env!("CARGO_TARGET_TMPDIR")).join(name);
     fs::write(&path, text).unwrap();
-    let program = root().join("target/bin/replay");
-    let output = Command::new(program).arg(path).output();
-    let output = output.expect("target/bin/replay starts: `rt check replay` builds it");
+    let output = Command::new(program()).arg(path).output();
+    let output = output.expect("target/bin/replay starts");
     assert!(output.status.success(), "{name}: {}", output.status);
     String::from_utf8(output.stdout).unwrap()
 }
