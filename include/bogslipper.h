@@ -87,10 +87,13 @@ bog_said bog_check_packet(const uint8_t *data, size_t n, uint64_t least, uint8_t
  */
 
 /*
- * The first pass over a compound: lengths, the FIRST packet's version, and
- * padding on the last packet alone. Expected lengths count from the start of
- * the data. Values: none.
+ * The first pass over a compound: each packet's length and its own version,
+ * padding on the last packet alone, and a padding count that fits: a multiple
+ * of 4, not 0, at most the packet's length less 4. Expected lengths count from
+ * the start of the data. Values: none.
  * Refusals: 1 (empty); then at each packet 1 (4 bytes), 2, 1 (its length), 5.
+ * Chromium, Firefox and pion pad some packets by 1 to 3 bytes: 5. The step of
+ * the walk and the calls on one packet's bytes take such a packet.
  */
 bog_said bog_compound_parse(const uint8_t *data, size_t n);
 

@@ -43,18 +43,49 @@ fn first_pass(bytes: &[u8]) -> Result<(), String> {
     if bytes.is_empty() {
         return Err(too_short(4, 0));
     }
-    if bytes.len() >= 4 && bytes[0] >> 6 != 2 {
-        return Err(version(bytes[0]));
-    }
     let mut at = 0;
     while at < bytes.len() {
+        if at + 4 <= bytes.len() && bytes[at] >> 6 != 2 {
+            return Err(version(bytes[at]));
+        }
         let end = end_of(bytes, at)?;
-        if bytes[at] & 0x20 != 0 && end < bytes.len() {
-            return Err("refused 5: padding with a count of 0 or before the last packet\n".into());
+        if bytes[at] & 0x20 != 0 {
+            let wrong = match bytes[end - 1] {
+                _ if end < bytes.len() => "has padding and is not the last".to_string(),
+                0 => "has padding count 0".to_string(),
+                count if count % 4 != 0 => {
+                    format!("has padding count {count}, which is not a multiple of 4")
+                }
+                count if usize::from(count) > end - at - 4 => {
+                    format!("has padding count {count}, which is above its length less 4")
+                }
+                _ => return Ok(()),
+            };
+            let alone = block_alone(bytes, at, end);
+            return Err(format!("refused 5: the packet at {at} {wrong}\n{alone}"));
         }
         at = end;
     }
     Ok(())
+}
+
+/// How the block of a last packet whose padding count is no multiple of four is read, where there is one.
+fn block_alone(bytes: &[u8], at: usize, end: usize) -> String {
+    let padding = usize::from(bytes[end - 1]);
+    let holds = holds(&bytes[at..end]);
+    if end < bytes.len() || padding % 4 == 0 || holds == "-" || end < at + 12 + padding {
+        return String::new();
+    }
+    let (skip, take) = (at + 12, end - at - 12 - padding);
+    format!("its block alone: bogslipper {holds} --skip {skip} --take {take}\n")
+}
+
+fn holds(packet: &[u8]) -> &'static str {
+    match (packet[1], packet[0] & 0x1f) {
+        (205, 1) => "nack",
+        (205, 15) => "twcc",
+        _ => "-",
+    }
 }
 
 fn compound(bytes: &[u8]) -> Report {
@@ -97,12 +128,7 @@ fn packet(packet: &[u8], at: usize) -> String {
         0 => "-".to_string(),
         _ => packet[packet.len() - 1].to_string(),
     };
-    let holds = match (kind, count) {
-        (205, 1) => "nack",
-        (205, 15) => "twcc",
-        _ => "-",
-    };
-    let length = packet.len();
+    let (length, holds) = (packet.len(), holds(packet));
     format!("{at:>7}{kind:>6}  {name:<5}{count:>7}{length:>8}{padding:>9}  {holds}\n")
 }
 

@@ -21,7 +21,6 @@ fn reports(command: &str, name: &str, status: i32) {
 #[test]
 fn the_samples() {
     reports("compound", "compound", 0);
-    reports("compound", "padded", 0);
     reports("nack", "nack", 0);
     reports("twcc", "twcc", 0);
 }
@@ -29,6 +28,11 @@ fn the_samples() {
 #[test]
 fn a_cut_datagram_is_refused_and_walked_as_far_as_it_goes() {
     reports("compound", "cut", 1);
+}
+
+#[test]
+fn padding_that_is_no_multiple_of_four_is_refused_and_its_block_read_alone() {
+    reports("compound", "padded", 1);
 }
 
 #[test]
@@ -73,13 +77,13 @@ fn no_bytes() {
 }
 
 #[test]
-fn a_version_is_refused_by_the_walk() {
+fn a_later_version_is_refused_by_both() {
     says(
         "compound",
         &[0x80, 0xcb, 0, 0, 0x40, 0xcb, 0, 0],
         1,
         &[
-            "first pass: accepted, 8 bytes",
+            "first pass: refused 2: version 1 where 2 is expected",
             " offset  type  name   count  length  padding  holds",
             "      0   203  BYE        0       4        -  -",
             "walk at 4: refused 2: version 1 where 2 is expected",
@@ -108,12 +112,92 @@ fn padding_before_the_last_packet_is_refused() {
         &[0xa0, 0xcb, 0, 0, 0x80, 0xcd, 0, 0],
         1,
         &[
-            "first pass: refused 5: padding with a count of 0 or before the last packet",
+            "first pass: refused 5: the packet at 0 has padding and is not the last",
             " offset  type  name   count  length  padding  holds",
             "      0   203  BYE        0       4        0  -",
             "      4   205  RTPFB      0       4        -  -",
         ],
     );
+}
+
+#[test]
+fn padding_comes_before_a_later_version() {
+    says(
+        "compound",
+        &[0xa0, 0xcb, 0, 0, 0x40, 0xcb, 0, 0],
+        1,
+        &[
+            "first pass: refused 5: the packet at 0 has padding and is not the last",
+            " offset  type  name   count  length  padding  holds",
+            "      0   203  BYE        0       4        0  -",
+            "walk at 4: refused 2: version 1 where 2 is expected",
+        ],
+    );
+}
+
+/// A goodbye, then a feedback packet of 20 bytes and format 1 with this last byte.
+fn padded_nack(count: u8) -> Vec<u8> {
+    let mut bytes = vec![0x80, 0xcb, 0, 0, 0xa1, 0xcd, 0, 4];
+    bytes.resize(23, 0);
+    bytes.push(count);
+    bytes
+}
+
+#[test]
+fn padding_counts_that_do_not_fit_are_refused() {
+    let rows = |count: u8| {
+        [
+            " offset  type  name   count  length  padding  holds".to_string(),
+            "      0   203  BYE        0       4        -  -".to_string(),
+            format!("      4   205  RTPFB      1      20{count:>9}  nack"),
+        ]
+    };
+    let verdicts: [(u8, i32, &[&str]); 9] = [
+        (0, 1, &["first pass: refused 5: the packet at 4 has padding count 0"]),
+        (
+            1,
+            1,
+            &[
+                "first pass: refused 5: the packet at 4 has padding count 1, which is not a multiple of 4",
+                "its block alone: bogslipper nack --skip 16 --take 7",
+            ],
+        ),
+        (4, 0, &["first pass: accepted, 24 bytes"]),
+        (
+            7,
+            1,
+            &[
+                "first pass: refused 5: the packet at 4 has padding count 7, which is not a multiple of 4",
+                "its block alone: bogslipper nack --skip 16 --take 1",
+            ],
+        ),
+        (8, 0, &["first pass: accepted, 24 bytes"]),
+        (
+            9,
+            1,
+            &["first pass: refused 5: the packet at 4 has padding count 9, which is not a multiple of 4"],
+        ),
+        (16, 0, &["first pass: accepted, 24 bytes"]),
+        (
+            17,
+            1,
+            &["first pass: refused 5: the packet at 4 has padding count 17, which is not a multiple of 4"],
+        ),
+        (
+            20,
+            1,
+            &["first pass: refused 5: the packet at 4 has padding count 20, which is above its length less 4"],
+        ),
+    ];
+    for (count, status, verdict) in verdicts {
+        let rows = rows(count);
+        let lines: Vec<&str> = verdict
+            .iter()
+            .copied()
+            .chain(rows.iter().map(String::as_str))
+            .collect();
+        says("compound", &padded_nack(count), status, &lines);
+    }
 }
 
 #[test]
@@ -181,10 +265,11 @@ fn skip_and_take_leave_a_part() {
     bogslipper(&words).ended(&words, 0, text, "");
 }
 
-/// Every datagram is a compound whose packets lie end to end, and every block in it is read to its last entry.
+/// Every datagram's packets lie end to end, and every block in it is read to its last entry. The first pass accepts all of them
+/// but those that a sender padded by 1 to 3 bytes.
 #[test]
 fn the_traffic() {
-    let (mut datagrams, mut blocks) = (0, 0);
+    let (mut datagrams, mut blocks, mut refused) = (0, 0, 0);
     for entry in std::fs::read_dir(root().join("samples/traffic")).unwrap() {
         for line in std::fs::read_to_string(entry.unwrap().path())
             .unwrap()
@@ -193,17 +278,21 @@ fn the_traffic() {
             let bytes = report::hex(line.as_bytes()).unwrap();
             let words = ["compound", "--hex", "-"];
             let (status, text) = report::on("compound", &bytes);
-            with_input(&words, line.as_bytes()).ended(&words, 0, &text, "");
-            assert_eq!(status, 0, "{line}");
-            blocks += text
-                .lines()
-                .skip(2)
-                .filter(|row| block(line, &bytes, row))
-                .count();
+            with_input(&words, line.as_bytes()).ended(&words, status, &text, "");
+            let table = text.lines().skip_while(|row| !row.starts_with(" offset"));
+            let rows: Vec<&str> = table.skip(1).collect();
+            assert!(!rows.iter().any(|row| row.starts_with("walk")), "{line}");
+            if status == 1 {
+                assert!(text.contains("which is not a multiple of 4"), "{line}");
+                assert!(text.contains("its block alone: bogslipper twcc"), "{line}");
+                assert!(matches!(bytes[bytes.len() - 1], 1..=3), "{line}");
+                refused += 1;
+            }
+            blocks += rows.iter().filter(|row| block(line, &bytes, row)).count();
             datagrams += 1;
         }
     }
-    assert_eq!((datagrams, blocks), (60, 31));
+    assert_eq!((datagrams, blocks, refused), (60, 31, 4));
 }
 
 /// Reads the block that a packet holds, whose row in the compound's report this is; whether it holds one.

@@ -54,9 +54,14 @@ static void use_compound(void)
 {
     const uint8_t two[8] = {0x80, 0xCB, 0, 0, 0x40, 0xCB, 0, 0};
     const uint8_t padded[8] = {0xA0, 0xCB, 0, 0, 0x80, 0xCB, 0, 0};
+    const uint8_t fits[8] = {0xA0, 0xCB, 0, 1, 0, 0, 0, 4};
+    const uint8_t uneven[8] = {0xA0, 0xCB, 0, 1, 0, 0, 0, 2};
 
-    check("compound", says(bog_compound_parse(two, 8), 0, 0, 0, 0, 0, 0));
+    check("compound", says(bog_compound_parse(two, 4), 0, 0, 0, 0, 0, 0));
+    check("compound, version", says(bog_compound_parse(two, 8), 2, 1, 0, 0, 0, 0));
     check("compound, padding", says(bog_compound_parse(padded, 8), 5, 0, 0, 0, 0, 0));
+    check("compound, count", says(bog_compound_parse(fits, 8), 0, 0, 0, 0, 0, 0));
+    check("compound, wrong count", says(bog_compound_parse(uneven, 8), 5, 0, 0, 0, 0, 0));
     check("packet", says(bog_unknown_parse(two, 4), 0, 0, 0, 0, 0, 0));
     check("packet, long", says(bog_unknown_parse(two, 8), 4, 4, 8, 0, 0, 0));
     check("step", says(bog_walk_step(two, 8, 0), 0, 0, 4, 0, 4, 0));

@@ -9,8 +9,8 @@ use crate::Refusal;
 
 /// A compound that the first pass accepted; an iterator over its packets.
 ///
-/// Each item is a packet as a part of the compound's bytes. The first pass looks at the first packet's version alone, the
-/// iterator at each packet's own: a later packet of another version is an `Err`, and the iterator ends behind it.
+/// Each item is a packet as a part of the compound's bytes; laid end to end they are all of them. Items are `Result`s as those of
+/// rtcp-types are, and none is an `Err`: what would be refused the first pass has refused.
 ///
 /// ```
 /// use bogslipper::{Compound, Refusal};
@@ -27,20 +27,46 @@ pub struct Compound<'a> {
 }
 
 impl<'a> Compound<'a> {
-    /// Checks the lengths of all packets, the version of the first, and that none but the last is padded.
+    /// Checks the length and the version of every packet, that none but the last is padded, and that its padding count fits.
     ///
     /// ```
     /// use bogslipper::{Compound, Refusal};
     ///
     /// assert!(Compound::parse(&[0x80, 203, 0, 0]).is_ok());
+    /// assert!(Compound::parse(&[0xA0, 203, 0, 1, 0, 0, 0, 4]).is_ok());
     /// let padded_first = [0xA0, 203, 0, 0, 0x80, 203, 0, 0];
     /// assert_eq!(Compound::parse(&padded_first).unwrap_err(), Refusal::InvalidPadding);
+    /// let other_version = [0x80, 203, 0, 0, 0x40, 203, 0, 0];
+    /// let refusal = Refusal::UnsupportedVersion { version: 1 };
+    /// assert_eq!(Compound::parse(&other_version).unwrap_err(), refusal);
     /// ```
     ///
     /// # Refusals
     ///
-    /// 1 on no bytes. Then at each packet: 1, fewer than four bytes left; 2, version; 1, its length goes past the end; 5,
-    /// padding bit before the last packet. Expected lengths count from the start of the data.
+    /// 1 on no bytes. Then at each packet: 1, fewer than four bytes left; 2, its own version; 1, its length goes past the end;
+    /// 5, padding bit before the last packet, or a padding count that is 0, no multiple of 4 or above the packet's length less
+    /// 4. Expected lengths count from the start of the data.
+    ///
+    /// Chromium, Firefox and pion pad some TWCC packets by 1 to 3 bytes, which is refused with 5. [`walk_step`] and the calls on
+    /// one packet's bytes take such a packet:
+    ///
+    /// ```
+    /// use bogslipper::compound::walk_step;
+    /// use bogslipper::utils::parser::{check_packet, parse_padding};
+    /// use bogslipper::{Compound, Refusal, Twcc};
+    ///
+    /// let sent = [
+    ///     0xAF, 205, 0, 5, 0, 0, 0, 1, 0, 0, 0, 2, // header, sender, media source
+    ///     0, 7, 0, 1, 0, 0, 0, 0, 0x20, 1, 9, 1, // a TWCC block of 11 bytes, and padding that counts 1
+    /// ];
+    /// assert_eq!(Compound::parse(&sent).unwrap_err(), Refusal::InvalidPadding);
+    /// let (packet, _) = walk_step(&sent, 0)?.expect("a packet");
+    /// check_packet(packet, 12, 205)?;
+    /// let padding = parse_padding(packet)?.unwrap_or(0);
+    /// let block = Twcc::parse(&packet[12..packet.len() - usize::from(padding)])?;
+    /// assert_eq!(block.base_sequence_number(), 7);
+    /// # Ok::<(), Refusal>(())
+    /// ```
     pub fn parse(data: &'a [u8]) -> Result<Compound<'a>, Refusal> {
         // SAFETY: the call reads the slice alone and keeps nothing of it.
         unsafe { ffi::bog_compound_parse(data.as_ptr(), data.len()) }.result()?;

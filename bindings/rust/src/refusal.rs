@@ -44,7 +44,7 @@ pub enum Refusal {
         /// The bytes present.
         actual: usize,
     },
-    /// 5: padding with a count of 0, or on a packet that is not the last of its compound.
+    /// 5: padding on a packet that is not the last of its compound, or a padding count that does not fit.
     InvalidPadding,
     /// 8: the count is above 31.
     CountOutOfRange {
@@ -254,7 +254,10 @@ impl fmt::Display for Refusal {
                 write!(f, "bytes too many: {expected} expected, {actual} present")
             }
             Refusal::InvalidPadding => {
-                write!(f, "padding with a count of 0 or before the last packet")
+                write!(
+                    f,
+                    "padding before the last packet, or a padding count that does not fit"
+                )
             }
             Refusal::CountOutOfRange { count } => write!(f, "count {count} is above 31"),
             Refusal::UnevenPadding { padding } => {

@@ -13,14 +13,45 @@ fn refused(hex: &str) -> Refusal {
 #[test]
 fn fixed_example_second_version() {
     let data = bytes("80 CB 00 00 40 CB 00 00");
-    let mut compound = Compound::parse(&data).expect("the first version alone is looked at");
-    assert_eq!(compound.next(), Some(Ok(&data[..4])));
+    let other = Refusal::UnsupportedVersion { version: 1 };
+    assert_eq!(Compound::parse(&data).expect_err("a refusal"), other);
+    assert_eq!(walk_step(&data, 0), Ok(Some((&data[..4], 4))));
+    assert_eq!(walk_step(&data, 4), Err(other));
+}
+
+#[test]
+fn every_version_is_tested_at_its_turn() {
+    let version = |version| Refusal::UnsupportedVersion { version };
+    assert_eq!(refused("80 CB 00 00 C0 CB 00 09"), version(3));
+    assert_eq!(refused("80 CB 00 00 80 CB 00 00 00 CB 00 00"), version(0));
+    assert_eq!(refused("A0 CB 00 00 40 CB 00 00"), Refusal::InvalidPadding);
     assert_eq!(
-        compound.next(),
-        Some(Err(Refusal::UnsupportedVersion { version: 1 }))
+        refused("80 CB 00 00 40 CB"),
+        Refusal::Truncated {
+            expected: 8,
+            actual: 6
+        }
     );
-    assert_eq!(compound.next(), None);
-    assert_eq!(compound.next(), None);
+}
+
+#[test]
+fn a_padding_count_fits_between_the_header_and_the_end() {
+    for words in 0..70 {
+        for count in (0..=255).filter(|count| words > 0 || *count == 0) {
+            let mut data = vec![0x80, 203, 0, 0, 0xA0, 203, 0, words];
+            data.resize(8 + 4 * usize::from(words), 0);
+            if words > 0 {
+                *data.last_mut().unwrap() = count;
+            }
+            let fits = count > 0 && count % 4 == 0 && u16::from(count) <= 4 * u16::from(words);
+            let packets = Compound::parse(&data).and_then(|compound| compound.collect());
+            let expected = match fits {
+                true => Ok(vec![&data[..4], &data[4..]]),
+                false => Err(Refusal::InvalidPadding),
+            };
+            assert_eq!(packets, expected, "{words} words, count {count}");
+        }
+    }
 }
 
 #[test]
@@ -102,8 +133,8 @@ fn the_walk_looks_into_no_packet() {
     for type_ in 200..=207 {
         for first in [0x80, 0x9F, 0xA0] {
             let data = [0x80, type_, 0, 0, first, type_, 0, 0];
-            let packets: Result<Vec<_>, _> = Compound::parse(&data).expect("a compound").collect();
-            assert_eq!(packets, Ok(vec![&data[..4], &data[4..]]));
+            assert_eq!(walk_step(&data, 0), Ok(Some((&data[..4], 4))));
+            assert_eq!(walk_step(&data, 4), Ok(Some((&data[4..], 8))));
             assert_eq!(
                 Unknown::parse(&data[4..]).map(|packet| packet.type_()),
                 Ok(type_)

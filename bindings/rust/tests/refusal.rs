@@ -43,7 +43,7 @@ fn table() -> Vec<(u64, [u64; 2], Refusal, &'static str)> {
             5,
             [0, 0],
             Refusal::InvalidPadding,
-            "padding with a count of 0 or before the last packet",
+            "padding before the last packet, or a padding count that does not fit",
         ),
         (
             8,

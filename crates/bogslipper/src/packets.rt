@@ -9,6 +9,13 @@ use refusal::Number;
 use refusal::Refusal;
 use utils::Padded;
 
+// What a packet holds that another command reads.
+enum Block {
+    Nack,
+    Twcc,
+    Nothing,
+}
+
 // Whether nothing was refused.
 pub fn report(bytes: &[u8]) -> bool {
     let passed = verdict(bytes);
@@ -28,11 +35,86 @@ fn verdict(bytes: &[u8]) -> bool {
             true
         }
         Checked::No(r) => {
-            let p = words::refused(&mut line, p, r);
-            line::write(line, p, STDOUT_FILENO);
+            match r {
+                Refusal::InvalidPadding => misfit(line, p, bytes, first_padded(bytes)),
+                _ => {
+                    let p = words::refused(&mut line, p, r);
+                    line::write(line, p, STDOUT_FILENO);
+                }
+            }
             false
         }
     }
+}
+
+// The first packet with the padding bit: where the first pass refuses padding, this packet's.
+fn first_padded(bytes: &[u8]) -> usize {
+    let mut at = 0;
+    while at < bytes.len() {
+        if field(utils::parse_padding_bit(compound::walk_part(bytes, at))) == 1 {
+            return at;
+        }
+        at = compound::walk_next(bytes, at);
+    }
+    at
+}
+
+// What is wrong with the padding of the packet at an offset, and how its block is read all the same.
+fn misfit(line: [u8; LONGEST], p: usize, bytes: &[u8], at: usize) {
+    let mut line = line;
+    let p = line::labelled(&mut line, p, b"refused 5: the packet at ", at as u64);
+    let p = wrong(&mut line, p, bytes, at);
+    line::write(line, p, STDOUT_FILENO);
+    read_alone(bytes, compound::walk_part(bytes, at));
+}
+
+fn wrong(line: &mut [u8; LONGEST], p: usize, bytes: &[u8], at: usize) -> usize {
+    if compound::walk_next(bytes, at) < bytes.len() {
+        return line::text(line, p, b" has padding and is not the last");
+    }
+    let count = padding_count(compound::walk_part(bytes, at));
+    let p = line::labelled(line, p, b" has padding count ", count);
+    if count == 0 {
+        return p;
+    }
+    if count % 4 != 0 {
+        return line::text(line, p, b", which is not a multiple of 4");
+    }
+    line::text(line, p, b", which is above its length less 4")
+}
+
+// How the block in the last packet is read all the same, where its padding count is wrong only in being no multiple of 4.
+fn read_alone(bytes: &[u8], packet: &[u8]) {
+    let padding = padding_count(packet) as usize;
+    if padding % 4 == 0 {
+        return;
+    }
+    if packet.len() < 12 {
+        return;
+    }
+    let behind = packet.len() - 12;
+    if behind < padding {
+        return;
+    }
+    if bytes.len() < behind {
+        return;
+    }
+    let skip = bytes.len() - behind;
+    let take = behind - padding;
+    match block_in(packet) {
+        Block::Nack => block_alone(b"nack", skip, take),
+        Block::Twcc => block_alone(b"twcc", skip, take),
+        Block::Nothing => {}
+    }
+}
+
+fn block_alone(command: &[u8], skip: usize, take: usize) {
+    let mut line = [0u8; LONGEST];
+    let p = line::text(&mut line, 0, b"its block alone: bogslipper ");
+    let p = line::text(&mut line, p, command);
+    let p = line::labelled(&mut line, p, b" --skip ", skip as u64);
+    let p = line::labelled(&mut line, p, b" --take ", take as u64);
+    line::write(line, p, STDOUT_FILENO);
 }
 
 fn heading() {
@@ -82,7 +164,7 @@ fn packet(packet: &[u8], at: usize) {
     let p = line::number(&mut line, p, packet.len() as u64, 8);
     let p = padding(&mut line, p, packet);
     let p = line::text(&mut line, p, b"  ");
-    let p = holds(&mut line, p, kind, count);
+    let p = holds(&mut line, p, packet);
     line::write(line, p, STDOUT_FILENO);
 }
 
@@ -118,15 +200,33 @@ fn padding(line: &mut [u8; LONGEST], at: usize, packet: &[u8]) -> usize {
     }
 }
 
+// The last byte of a packet with the padding bit, else 0.
+fn padding_count(packet: &[u8]) -> u64 {
+    match utils::parse_padding(packet) {
+        Padded::Byte(count) => count as u64,
+        Padded::Clear => 0,
+        Padded::No(_) => 0,
+    }
+}
+
 // The block that stands from byte 12 of a feedback packet on, whose count is its format.
-fn holds(line: &mut [u8; LONGEST], at: usize, kind: u64, count: u64) -> usize {
-    if kind == 205 {
-        if count == 1 {
-            return line::text(line, at, b"nack");
+fn block_in(packet: &[u8]) -> Block {
+    if field(utils::parse_packet_type(packet)) == 205 {
+        let format = field(utils::parse_count(packet));
+        if format == 1 {
+            return Block::Nack;
         }
-        if count == 15 {
-            return line::text(line, at, b"twcc");
+        if format == 15 {
+            return Block::Twcc;
         }
     }
-    line::text(line, at, b"-")
+    Block::Nothing
+}
+
+fn holds(line: &mut [u8; LONGEST], at: usize, packet: &[u8]) -> usize {
+    match block_in(packet) {
+        Block::Nack => line::text(line, at, b"nack"),
+        Block::Twcc => line::text(line, at, b"twcc"),
+        Block::Nothing => line::text(line, at, b"-"),
+    }
 }

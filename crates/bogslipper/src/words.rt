@@ -51,7 +51,7 @@ fn on_reading(line: &mut [u8; LONGEST], at: usize, told: Told) -> usize {
         _ => line::text(
             line,
             at,
-            b"padding with a count of 0 or before the last packet",
+            b"padding before the last packet, or a padding count that does not fit",
         ),
     }
 }

@@ -4,7 +4,7 @@ use mathlib.Core.List.{List, [], _∷_}
 use mathlib.Core.Path.{_≡_, refl, sym, ap, _∙_}
 use mathlib.Core.Bool.{Bool, true, false, cond, not}
 use native.Mathlib.Omega.{arith}
-use borrow.Author.Tests.{ltb-false, lt-ltb, le-ltb, lt-leb, le-leb, eq-eqb, ne-eqb}
+use borrow.Author.Tests.{ltb-false, eqb-true, eqb-false, lt-ltb, le-ltb, lt-leb, le-leb, eq-eqb, ne-eqb}
 use lib.Dec.{eqb, ltb, leb}
 use lib.IntN.{ℤ}
 use native.Mathlib.Nat.{add-zero}
@@ -13,8 +13,9 @@ use lib.Seq.{getD-drop}
 use Rattle.octets.proofs.Logic.{never}
 use Rattle.refusal.specs.Outcome.{gave, refused, refuse}
 use Rattle.utils.specs.Header.{versionOf, paddingBitOf, lengthOf}
-use Rattle.compound.specs.Pass.{endOf, firstTurn, passFrom, firstPass}
-use Rattle.compound.specs.Walk.{walkStep, step, over, packet, packetAt, last}
+use Rattle.utils.specs.Check.{lastByteOf, paddingFits}
+use Rattle.compound.specs.Pass.{endOf, firstTurn, turnsFrom, passBy, firstPass}
+use Rattle.compound.specs.Walk.{walkStep, step, over, packet, packetAt, last, nextOf, walkNext}
 use Rattle.compound.specs.Inner.{WordsBehind}
 use Rattle.compound.specs.declared.Packet.{Packet}
 
@@ -25,34 +26,56 @@ version-at bytes at = simp (getD-drop, add-zero)
 pub padding-at : (bytes : List ℕ) (at : ℕ) → paddingBitOf (drop at bytes) ≡ getD bytes at 0 / 32 % 2
 padding-at bytes at = simp (getD-drop, add-zero)
 
--- the length field of the packet that starts at an offset
-pub words-behind : (bytes : List ℕ) (at words : ℕ) → words ≡ 256 * getD bytes (at + 2) 0 + getD bytes (at + 3) 0 → words < 65536 → WordsBehind bytes at words
-words-behind bytes at words is small =
+-- where it ends, by its length field
+ends-at : (bytes : List ℕ) (at words : ℕ) → words ≡ 256 * getD bytes (at + 2) 0 + getD bytes (at + 3) 0 → at + 4 + 4 * words ≡ endOf bytes at
+ends-at bytes at words is =
     let high = getD-drop at bytes 2 0 in
     let low = getD-drop at bytes 3 0 in
-    record { few = small; ends = omega (arith, high, low, is) }
+    omega (arith, high, low, is)
+
+pub words-behind : (bytes : List ℕ) (at words : ℕ) → words ≡ 256 * getD bytes (at + 2) 0 + getD bytes (at + 3) 0 → words < 65536 → WordsBehind bytes at words
+words-behind bytes at words is small = record { few = small; ends = ends-at bytes at words is }
+
+-- the last byte of the packet that starts at an offset; n is where it ends
+pub last-at : (bytes : List ℕ) (at n : ℕ) → n ≡ endOf bytes at → lastByteOf (drop at bytes) ≡ getD bytes (n - 1) 0
+last-at bytes at n ends =
+    let place : at + (lengthOf (drop at bytes) - 1) ≡ n - 1 = omega arith in
+    getD-drop at bytes (lengthOf (drop at bytes) - 1) 0 ∙ ap (λ (i : ℕ). getD bytes i 0) place
 
 -- what a turn and a step come to, test by test, at an offset where a header stands; n is where its packet ends
 module _ (bytes : List ℕ) (at n : ℕ) (ends : n ≡ endOf bytes at) (header : at + 4 ≤ length bytes) where
-  pub turn-past : versionOf bytes ≡ 2 → length bytes < n → firstTurn bytes at ≡ refuse 1 (n ∷ length bytes ∷ [])
+  pub turn-other : (getD bytes at 0 / 64 ≡ 2 → ⊥) → firstTurn bytes at ≡ refuse 2 (getD bytes at 0 / 64 ∷ [])
   unfolding firstTurn
-  turn-past two past = simp (le-ltb (length bytes) (at + 4) header, eq-eqb (versionOf bytes) 2 two, ← ends, lt-ltb (length bytes) n past)
+  turn-other other = simp (le-ltb (length bytes) (at + 4) header, version-at bytes at, ne-eqb (getD bytes at 0 / 64) 2 other)
 
-  pub turn-plain : versionOf bytes ≡ 2 → n ≤ length bytes → getD bytes at 0 / 32 % 2 ≡ 0 → firstTurn bytes at ≡ gave n
+  turn-two : getD bytes at 0 / 64 ≡ 2
+      → firstTurn bytes at
+      ≡ cond (ltb (length bytes) n) (refuse 1 (n ∷ length bytes ∷ [])) (cond (eqb (getD bytes at 0 / 32 % 2) 0) (gave n) (cond (ltb n (length bytes)) (refuse 5 []) (cond (not (paddingFits (drop at bytes))) (refuse 5 []) (gave n))))
   unfolding firstTurn
-  turn-plain two whole clear =
-      simp (le-ltb (length bytes) (at + 4) header, eq-eqb (versionOf bytes) 2 two, ← ends, le-ltb (length bytes) n whole, padding-at bytes at, eq-eqb (getD bytes at 0 / 32 % 2) 0 clear)
+  turn-two two = simp (le-ltb (length bytes) (at + 4) header, version-at bytes at, eq-eqb (getD bytes at 0 / 64) 2 two, ← ends, padding-at bytes at)
 
-  turn-set : versionOf bytes ≡ 2 → n ≤ length bytes → (getD bytes at 0 / 32 % 2 ≡ 0 → ⊥) → firstTurn bytes at ≡ cond (ltb n (length bytes)) (refuse 5 []) (gave n)
-  unfolding firstTurn
-  turn-set two whole set =
-      simp (le-ltb (length bytes) (at + 4) header, eq-eqb (versionOf bytes) 2 two, ← ends, le-ltb (length bytes) n whole, padding-at bytes at, ne-eqb (getD bytes at 0 / 32 % 2) 0 set)
+  pub turn-past : getD bytes at 0 / 64 ≡ 2 → length bytes < n → firstTurn bytes at ≡ refuse 1 (n ∷ length bytes ∷ [])
+  turn-past two past = turn-two two ∙ simp (lt-ltb (length bytes) n past)
 
-  pub turn-padded : versionOf bytes ≡ 2 → n < length bytes → (getD bytes at 0 / 32 % 2 ≡ 0 → ⊥) → firstTurn bytes at ≡ refuse 5 []
-  turn-padded two more set = turn-set two (omega arith) set ∙ simp (lt-ltb n (length bytes) more)
+  pub turn-plain : getD bytes at 0 / 64 ≡ 2 → n ≤ length bytes → getD bytes at 0 / 32 % 2 ≡ 0 → firstTurn bytes at ≡ gave n
+  turn-plain two whole clear = turn-two two ∙ simp (le-ltb (length bytes) n whole, eq-eqb (getD bytes at 0 / 32 % 2) 0 clear)
 
-  pub turn-last : versionOf bytes ≡ 2 → n ≤ length bytes → length bytes ≤ n → (getD bytes at 0 / 32 % 2 ≡ 0 → ⊥) → firstTurn bytes at ≡ gave n
-  turn-last two whole end set = turn-set two whole set ∙ simp (le-ltb n (length bytes) end)
+  pub turn-padded : getD bytes at 0 / 64 ≡ 2 → n < length bytes → (getD bytes at 0 / 32 % 2 ≡ 0 → ⊥) → firstTurn bytes at ≡ refuse 5 []
+  turn-padded two more set =
+      let whole : n ≤ length bytes = omega arith in
+      turn-two two ∙ simp (le-ltb (length bytes) n whole, ne-eqb (getD bytes at 0 / 32 % 2) 0 set, lt-ltb n (length bytes) more)
+
+  turn-last : getD bytes at 0 / 64 ≡ 2 → length bytes ≡ n → (getD bytes at 0 / 32 % 2 ≡ 0 → ⊥) → firstTurn bytes at ≡ cond (not (paddingFits (drop at bytes))) (refuse 5 []) (gave n)
+  turn-last two end set =
+      let whole : n ≤ length bytes = omega arith in
+      let none : length bytes ≤ n = omega arith in
+      turn-two two ∙ simp (le-ltb (length bytes) n whole, ne-eqb (getD bytes at 0 / 32 % 2) 0 set, le-ltb n (length bytes) none)
+
+  pub turn-fits : getD bytes at 0 / 64 ≡ 2 → length bytes ≡ n → (getD bytes at 0 / 32 % 2 ≡ 0 → ⊥) → paddingFits (drop at bytes) ≡ true → firstTurn bytes at ≡ gave n
+  turn-fits two end set fits = turn-last two end set ∙ rw fits
+
+  pub turn-misfits : getD bytes at 0 / 64 ≡ 2 → length bytes ≡ n → (getD bytes at 0 / 32 % 2 ≡ 0 → ⊥) → paddingFits (drop at bytes) ≡ false → firstTurn bytes at ≡ refuse 5 []
+  turn-misfits two end set misfits = turn-last two end set ∙ rw misfits
 
   walk-header : walkStep bytes at
       ≡ cond (ltb (length bytes) n) (last bytes (refuse 1 (n ∷ length bytes ∷ []))) (cond (not (eqb (getD bytes at 0 / 64) 2)) (last bytes (refuse 2 (getD bytes at 0 / 64 ∷ []))) (step (gave (packet (packetAt bytes at))) n))
@@ -70,6 +93,13 @@ module _ (bytes : List ℕ) (at n : ℕ) (ends : n ≡ endOf bytes at) (header :
       let own : lengthOf (drop at bytes) ≡ n - at = omega arith in
       walk-header ∙ simp (le-ltb (length bytes) n whole, eq-eqb (getD bytes at 0 / 64) 2 two) (ap (λ (size : ℕ). step (gave (packet (record { start = at; length = size }))) n) own)
 
+-- a usual packet: the low byte of its length says where it ends
+pub turn-usual : (bytes : List ℕ) (word low : ℕ) → low ≡ getD bytes (4 * word + 3) 0 → 4 * word + 4 ≤ length bytes → getD bytes (4 * word) 0 / 32 ≡ 4 → getD bytes (4 * word + 2) 0 ≡ 0 → low < length bytes / 4 - word
+    → firstTurn bytes (4 * word) ≡ gave (4 * (word + 1 + low))
+turn-usual bytes word low is header plain short whole =
+    let ends = ends-at bytes (4 * word) low (omega arith) in
+    turn-plain bytes (4 * word) (4 * (word + 1 + low)) (omega (arith, ends)) header (omega arith) (omega arith) (omega arith)
+
 -- no header stands there
 pub turn-short : (bytes : List ℕ) (at : ℕ) → length bytes < at + 4 → firstTurn bytes at ≡ refuse 1 ((at + 4) ∷ length bytes ∷ [])
 unfolding firstTurn
@@ -83,40 +113,57 @@ pub walk-over : (bytes : List ℕ) (at : ℕ) → length bytes ≤ at → walkSt
 unfolding walkStep
 walk-over bytes at past = simp (le-leb (length bytes) at past)
 
--- a turn that goes on has a whole packet before it, four bytes at least
+-- a turn that goes on has a whole packet of version 2 before it, four bytes at least
 pub record Turned (bytes : List ℕ) (at next : ℕ) : Type 0 where
   pub moves : at + 4 ≤ next
   pub within : next ≤ length bytes
   pub ends : next ≡ endOf bytes at
+  pub two : versionOf (drop at bytes) ≡ 2
 
-pub turn-on : (bytes : List ℕ) (at next : ℕ) → firstTurn bytes at ≡ gave next → Turned bytes at next
+-- the padding that stands there: none, or that of the last packet, whose count fits
+pub data PaddingAt (bytes : List ℕ) (at next : ℕ) : Type 0 where
+  clear : paddingBitOf (drop at bytes) ≡ 0 → PaddingAt bytes at next
+  fits : paddingBitOf (drop at bytes) ≡ 1 → length bytes ≤ next → paddingFits (drop at bytes) ≡ true → PaddingAt bytes at next
+
+pub record Passed (bytes : List ℕ) (at next : ℕ) : Type 0 where
+  pub turned : Turned bytes at next
+  pub padding : PaddingAt bytes at next
+
+pub turn-on : (bytes : List ℕ) (at next : ℕ) → firstTurn bytes at ≡ gave next → Passed bytes at next
 unfolding firstTurn
 turn-on bytes at next goes =
-    go (ltb (length bytes) (at + 4)) (not (eqb (versionOf bytes) 2)) (ltb (length bytes) (endOf bytes at)) (eqb (paddingBitOf (drop at bytes)) 0)
-    (ltb (endOf bytes at) (length bytes)) refl goes
+    go (ltb (length bytes) (at + 4)) (eqb (versionOf (drop at bytes)) 2) (ltb (length bytes) e) (eqb (paddingBitOf (drop at bytes)) 0)
+    (ltb e (length bytes)) (paddingFits (drop at bytes)) refl refl refl refl refl goes
   where
     e : ℕ
     e = endOf bytes at
 
-    go : (b₁ b₂ b₃ b₄ b₅ : Bool) → ltb (length bytes) e ≡ b₃
-        → cond b₁ (refuse 1 ((at + 4) ∷ length bytes ∷ [])) (cond b₂ (refuse 2 (versionOf bytes ∷ [])) (cond b₃ (refuse 1 (e ∷ length bytes ∷ []))
-        (cond b₄ (gave e) (cond b₅ (refuse 5 []) (gave e))))) ≡ gave next → Turned bytes at next
-    go true b₂ b₃ b₄ b₅ past p = never (cc)
-    go false true b₃ b₄ b₅ past p = never (cc)
-    go false false true b₄ b₅ past p = never (cc)
-    go false false false false true past p = never (cc)
-    go false false false true b₅ past p = let z : next ≡ e = cc in record { moves = omega arith; within = omega (arith, ltb-false (length bytes) e past); ends = z }
-    go false false false false false past p = let z : next ≡ e = cc in record { moves = omega arith; within = omega (arith, ltb-false (length bytes) e past); ends = z }
+    whole : eqb (versionOf (drop at bytes)) 2 ≡ true → ltb (length bytes) e ≡ false → next ≡ e → Turned bytes at next
+    whole own past ends = record { moves = omega arith; within = omega (arith, ltb-false (length bytes) e past); ends = ends; two = eqb-true (versionOf (drop at bytes)) 2 own }
+
+    go : (b₁ b₂ b₃ b₄ b₅ b₆ : Bool) → eqb (versionOf (drop at bytes)) 2 ≡ b₂ → ltb (length bytes) e ≡ b₃ → eqb (paddingBitOf (drop at bytes)) 0 ≡ b₄ → ltb e (length bytes) ≡ b₅ → paddingFits (drop at bytes) ≡ b₆
+        → cond b₁ (refuse 1 ((at + 4) ∷ length bytes ∷ [])) (cond (not b₂) (refuse 2 (versionOf (drop at bytes) ∷ [])) (cond b₃ (refuse 1 (e ∷ length bytes ∷ []))
+        (cond b₄ (gave e) (cond b₅ (refuse 5 []) (cond (not b₆) (refuse 5 []) (gave e)))))) ≡ gave next → Passed bytes at next
+    go true b₂ b₃ b₄ b₅ b₆ own past bit more count p = never (cc)
+    go false false b₃ b₄ b₅ b₆ own past bit more count p = never (cc)
+    go false true true b₄ b₅ b₆ own past bit more count p = never (cc)
+    go false true false false true b₆ own past bit more count p = never (cc)
+    go false true false false false false own past bit more count p = never (cc)
+    go false true false true b₅ b₆ own past bit more count p = record { turned = whole own past (cc); padding = clear (eqb-true (paddingBitOf (drop at bytes)) 0 bit) }
+    go false true false false false true own past bit more count p =
+        let ends : next ≡ e = cc in
+        let set : paddingBitOf (drop at bytes) ≡ 0 → ⊥ = eqb-false (paddingBitOf (drop at bytes)) 0 bit in
+        record { turned = whole own past ends; padding = fits (omega arith) (omega (arith, ltb-false e (length bytes) more)) count }
 
 -- the turns that are left from an offset on say what the whole pass says
 pub record Passing (bytes : List ℕ) (at : ℕ) : Type 0 where
   pub turns : ℕ
   pub enough : length bytes - at ≤ turns
   pub within : at ≤ length bytes
-  pub same : passFrom turns bytes at ≡ firstPass bytes
+  pub same : turnsFrom firstTurn turns bytes at ≡ firstPass bytes
 
-pub pass-start : (bytes : List ℕ) → 0 < length bytes → passFrom (length bytes) bytes 0 ≡ firstPass bytes
-unfolding firstPass
+pub pass-start : (bytes : List ℕ) → 0 < length bytes → turnsFrom firstTurn (length bytes) bytes 0 ≡ firstPass bytes
+unfolding passBy firstPass
 pass-start bytes some = let none : length bytes ≡ 0 → ⊥ = λ e. omega arith in simp (ne-eqb (length bytes) 0 none)
 
 pub passing-start : (bytes : List ℕ) → 0 < length bytes → Passing bytes 0
@@ -124,47 +171,41 @@ passing-start bytes some = record { turns = length bytes; enough = omega arith; 
 
 -- it goes on
 pub passing-next : {bytes : List ℕ} {at : ℕ} (next : ℕ) → at < length bytes → firstTurn bytes at ≡ gave next → Passing bytes at → Passing bytes next
-unfolding passFrom
+unfolding turnsFrom
 passing-next {bytes} {at} next more goes p = go (p .turns) (p .enough) (p .same)
   where
     on : Turned bytes at next
-    on = turn-on bytes at next goes
+    on = turn-on bytes at next goes .turned
 
-    go : (turns : ℕ) → length bytes - at ≤ turns → passFrom turns bytes at ≡ firstPass bytes → Passing bytes next
+    go : (turns : ℕ) → length bytes - at ≤ turns → turnsFrom firstTurn turns bytes at ≡ firstPass bytes → Passing bytes next
     go zero enough same = absurd (omega arith)
     go (suc turns) enough same = record { turns = turns; enough = omega (arith, on); within = on .within; same = simp (lt-ltb at (length bytes) more, goes) at same }
 
 -- it refuses
 pub passing-no : {bytes : List ℕ} {at : ℕ} (number : ℕ) (values : List ℤ) → at < length bytes → firstTurn bytes at ≡ refused number values → Passing bytes at
     → firstPass bytes ≡ refused number values
-unfolding passFrom
+unfolding turnsFrom
 passing-no {bytes} {at} number values more refuses p = go (p .turns) (p .enough) (p .same)
   where
-    go : (turns : ℕ) → length bytes - at ≤ turns → passFrom turns bytes at ≡ firstPass bytes → firstPass bytes ≡ refused number values
+    go : (turns : ℕ) → length bytes - at ≤ turns → turnsFrom firstTurn turns bytes at ≡ firstPass bytes → firstPass bytes ≡ refused number values
     go zero enough same = absurd (omega arith)
     go (suc turns) enough same = sym (simp (lt-ltb at (length bytes) more, refuses) at same)
 
 -- it is at the end
 pub passing-end : {bytes : List ℕ} {at : ℕ} → length bytes ≤ at → Passing bytes at → firstPass bytes ≡ gave tt
-unfolding passFrom
+unfolding turnsFrom
 passing-end {bytes} {at} past p = go (p .turns) (p .same)
   where
-    go : (turns : ℕ) → passFrom turns bytes at ≡ firstPass bytes → firstPass bytes ≡ gave tt
+    go : (turns : ℕ) → turnsFrom firstTurn turns bytes at ≡ firstPass bytes → firstPass bytes ≡ gave tt
     go zero same = sym same
     go (suc turns) same = sym (simp (le-ltb at (length bytes) past) at same)
 
 -- bytes that have no header, none among them, are too short
 pub pass-short : (bytes : List ℕ) → length bytes < 4 → firstPass bytes ≡ refuse 1 (4 ∷ length bytes ∷ [])
-unfolding firstPass
+unfolding passBy firstPass
 pass-short [] short = refl
 pass-short (b ∷ bytes) short =
     passing-no _ _ (omega arith) (turn-short (b ∷ bytes) 0 short) (passing-start (b ∷ bytes) (omega arith))
-
--- the first version is not 2
-pub pass-version : (bytes : List ℕ) → 4 ≤ length bytes → (versionOf bytes ≡ 2 → ⊥) → firstPass bytes ≡ refuse 2 (versionOf bytes ∷ [])
-unfolding firstTurn
-pass-version bytes header other =
-    passing-no _ _ (omega arith) (simp (le-ltb (length bytes) 4 header, ne-eqb (versionOf bytes) 2 other)) (passing-start bytes (omega arith))
 
 -- a packet that the walk hands back starts there and ends where the walk goes on; it lies within the bytes and has four bytes at least
 pub record Handed (bytes : List ℕ) (at next : ℕ) (p : Packet) : Type 0 where
@@ -175,19 +216,40 @@ pub record Handed (bytes : List ℕ) (at next : ℕ) (p : Packet) : Type 0 where
 pub walk-packet : (bytes : List ℕ) (at next : ℕ) (p : Packet) → walkStep bytes at ≡ step (gave (packet p)) next → Handed bytes at next p
 unfolding walkStep
 walk-packet bytes at next p steps =
-    go (leb (length bytes) at) (ltb (length bytes) (at + 4)) (ltb (length bytes) (endOf bytes at)) (not (eqb (versionOf (drop at bytes)) 2)) refl steps
+    go (leb (length bytes) at) (ltb (length bytes) (at + 4)) (ltb (length bytes) (endOf bytes at)) (eqb (versionOf (drop at bytes)) 2) refl refl steps
   where
     e : ℕ
     e = endOf bytes at
 
-    go : (b₁ b₂ b₃ b₄ : Bool) → ltb (length bytes) e ≡ b₃
+    go : (b₁ b₂ b₃ b₄ : Bool) → ltb (length bytes) e ≡ b₃ → eqb (versionOf (drop at bytes)) 2 ≡ b₄
         → cond b₁ (last bytes (gave over)) (cond b₂ (last bytes (refuse 1 ((at + 4) ∷ length bytes ∷ []))) (cond b₃ (last bytes (refuse 1 (e ∷ length bytes ∷ [])))
-        (cond b₄ (last bytes (refuse 2 (versionOf (drop at bytes) ∷ []))) (step (gave (packet (packetAt bytes at))) e)))) ≡ step (gave (packet p)) next → Handed bytes at next p
-    go true b₂ b₃ b₄ past s = never (cc)
-    go false true b₃ b₄ past s = never (cc)
-    go false false true b₄ past s = never (cc)
-    go false false false true past s = never (cc)
-    go false false false false past s =
+        (cond (not b₄) (last bytes (refuse 2 (versionOf (drop at bytes) ∷ []))) (step (gave (packet (packetAt bytes at))) e)))) ≡ step (gave (packet p)) next → Handed bytes at next p
+    go true b₂ b₃ b₄ past own s = never (cc)
+    go false true b₃ b₄ past own s = never (cc)
+    go false false true b₄ past own s = never (cc)
+    go false false false false past own s = never (cc)
+    go false false false true past own s =
         let z : next ≡ e = cc in
-        let own : p .length ≡ lengthOf (drop at bytes) = cc in
-        record { starts = cc; size = omega arith; turned = record { moves = omega arith; within = omega (arith, ltb-false (length bytes) e past); ends = z } }
+        let size : p .length ≡ lengthOf (drop at bytes) = cc in
+        record { starts = cc; size = omega arith; turned = record { moves = omega arith; within = omega (arith, ltb-false (length bytes) e past); ends = z; two = eqb-true (versionOf (drop at bytes)) 2 own } }
+
+-- every step before the end moves on, and none past it
+pub record Moves (bytes : List ℕ) (at next : ℕ) : Type 0 where
+  pub on : at < next
+  pub within : next ≤ length bytes
+
+pub walk-moves : (bytes : List ℕ) (at : ℕ) → at < length bytes → Moves bytes at (walkNext bytes at)
+unfolding walkNext walkStep
+walk-moves bytes at more =
+    go (leb (length bytes) at) (ltb (length bytes) (at + 4)) (ltb (length bytes) (endOf bytes at)) (not (eqb (versionOf (drop at bytes)) 2)) refl
+  where
+    go : (b₁ b₂ b₃ b₄ : Bool) → ltb (length bytes) (endOf bytes at) ≡ b₃
+        → Moves bytes at
+        (nextOf
+        (cond b₁ (last bytes (gave over)) (cond b₂ (last bytes (refuse 1 ((at + 4) ∷ length bytes ∷ []))) (cond b₃ (last bytes (refuse 1 (endOf bytes at ∷ length bytes ∷ [])))
+        (cond b₄ (last bytes (refuse 2 (versionOf (drop at bytes) ∷ []))) (step (gave (packet (packetAt bytes at))) (endOf bytes at)))))))
+    go true b₂ b₃ b₄ past = record { on = more; within = omega arith }
+    go false true b₃ b₄ past = record { on = more; within = omega arith }
+    go false false true b₄ past = record { on = more; within = omega arith }
+    go false false false true past = record { on = more; within = omega arith }
+    go false false false false past = record { on = omega arith; within = omega (arith, ltb-false (length bytes) (endOf bytes at) past) }

@@ -1,3 +1,5 @@
 pub mod Laws
 pub mod Packets
+pub mod Sound
+pub mod Rust
 pub mod Unique

@@ -1,5 +1,7 @@
 pub mod Pass
+pub mod Rust
 pub mod Walk
 pub mod Said
 pub mod Packets
+pub mod Sound
 pub mod Inner

@@ -1,12 +1,10 @@
 -- The packets of a compound, and those that the walk hands back.
 use Prim.Native.Nat.{ℕ, zero, suc}
 use mathlib.Core.List.{List, [], _∷_, _++_}
-use mathlib.Core.Path.{_≡_}
 use mathlib.Core.Bool.{cond}
-use lib.Dec.{eqb, ltb}
+use lib.Dec.{ltb}
 use lib.ListN.{length, take, drop}
 use Rattle.refusal.specs.Outcome.{gave, refused}
-use Rattle.utils.specs.Header.{versionOf}
 use Rattle.compound.specs.Pass.{endOf}
 use Rattle.compound.specs.Walk.{Step, step, over, packet, packetAt, walkStep}
 use Rattle.compound.specs.declared.Packet.{Packet}
@@ -37,16 +35,7 @@ packetsIn bytes = packetsFrom (length bytes) bytes 0
 abbrev pub walkedIn : List ℕ → List (List ℕ)
 walkedIn bytes = walkedFrom (length bytes) bytes 0
 
--- the packets before the first whose own version is not 2
-unfoldable pub upToOther : List (List ℕ) → List (List ℕ)
-upToOther [] = []
-upToOther (p ∷ ps) = cond (eqb (versionOf p) 2) (p ∷ upToOther ps) []
-
+-- packets laid end to end
 unfoldable pub endToEnd : List (List ℕ) → List ℕ
 endToEnd [] = []
 endToEnd (p ∷ ps) = p ++ endToEnd ps
-
--- every packet has version 2
-pub data AllVersion2 : List (List ℕ) → Type 0 where
-  empty : AllVersion2 []
-  first : {p : List ℕ} {ps : List (List ℕ)} → versionOf p ≡ 2 → AllVersion2 ps → AllVersion2 (p ∷ ps)

@@ -2,11 +2,13 @@
 use refusal::Checked;
 use refusal::Refusal;
 ghost use mathlib.Core.Path.{_≡_};
+ghost use mathlib.Core.Bool.{true};
 ghost use Prim.Native.Nat.{_+_, _*_, _<_, _≤_};
-ghost use lib.ListN.{length};
+ghost use lib.ListN.{length, getD, drop};
+ghost use Rattle.refusal.specs.Outcome.{gave};
 ghost use Rattle.refusal.specs.Said.{saidChecked};
-ghost use Rattle.utils.specs.Header.{versionOf};
-ghost use Rattle.compound.specs.Pass.{firstTurn, firstPass};
+ghost use Rattle.utils.specs.Check.{paddingFits};
+ghost use Rattle.compound.specs.Pass.{endOf, firstTurn, firstPass};
 ghost use Rattle.compound.specs.Walk.{walkStep, walkNext, HandsBack};
 ghost use Rattle.compound.specs.Said.{saidWalked};
 ghost use Rattle.compound.specs.Inner.{WordsBehind, saidTurn};
@@ -45,14 +47,33 @@ fn words_behind(bytes: &[u8], at: usize) -> usize
     octets::joined(bytes[at + 2], bytes[at + 3])
 }
 
-// The tests of the first pass at a packet whose header is there, once the first packet's version is known to be 2. The
-// pass counts in words of four bytes, since every packet is whole words long.
-fn turn_at(bytes: &[u8], word: usize) -> Turn
-    requires { ⌜ (4 * word + 4 ≤ length (now bytes)) × (versionOf (now bytes) ≡ 2) ⌝ }
+// Whether the padding count of the packet between two offsets, its last byte, fits: a multiple of four, behind the header.
+fn padding_fits(bytes: &[u8], at: usize, next: usize) -> bool
+    requires { ⌜ (next ≡ endOf (now bytes) at) × (next ≤ length (now bytes)) ⌝ }
+    ensures { λ r. ⌜ r ≡ paddingFits (drop at (now (bytes .entry))) ⌝ }
+{
+    let count = octets::wide(bytes[next - 1]);
+    if count == 0 {
+        return false;
+    }
+    if count % 4 != 0 {
+        return false;
+    }
+    4 + count <= next - at
+}
+
+// The tests of the first pass at a packet whose header is there, in their order. The pass counts in words of four bytes, since
+// every packet is whole words long.
+fn tested_at(bytes: &[u8], word: usize) -> Turn
+    requires { ⌜ 4 * word + 4 ≤ length (now bytes) ⌝ }
     ensures { λ r. ⌜ saidTurn r ≡ firstTurn (now (bytes .entry)) (4 * word) ⌝ }
 {
     let end = bytes.len();
     let at = 4 * word;
+    let own_version = bytes[at] / 64;
+    if own_version != 2 {
+        return Turn::No(Refusal::UnsupportedVersion(own_version));
+    }
     let behind = words_behind(bytes, at);
     let next = word + 1 + behind;
     if end / 4 - word <= behind {
@@ -67,7 +88,37 @@ fn turn_at(bytes: &[u8], word: usize) -> Turn
     if 4 * next < end {
         return Turn::No(Refusal::InvalidPadding);
     }
-    Turn::Next(next)
+    if padding_fits(bytes, at, end) {
+        return Turn::Next(next);
+    }
+    Turn::No(Refusal::InvalidPadding)
+}
+
+// Whether the packet is a usual one: of version 2, without padding, of 1,024 bytes at most, and whole.
+fn is_usual(bytes: &[u8], word: usize) -> bool
+    requires { ⌜ 4 * word + 4 ≤ length (now bytes) ⌝ }
+    ensures { λ r. ⌜ (r ≡ true → firstTurn (now (bytes .entry)) (4 * word) ≡ gave (4 * (word + 1 + getD (now (bytes .entry)) (4 * word + 3) 0))) ⌝ }
+{
+    let at = 4 * word;
+    if bytes[at] / 32 != 4 {
+        return false;
+    }
+    if bytes[at + 2] != 0 {
+        return false;
+    }
+    octets::wide(bytes[at + 3]) < bytes.len() / 4 - word
+}
+
+// One turn at a packet whose header is there. The low byte of its length says where a usual packet ends, and the next turn waits
+// for that byte alone.
+fn turn_at(bytes: &[u8], word: usize) -> Turn
+    requires { ⌜ 4 * word + 4 ≤ length (now bytes) ⌝ }
+    ensures { λ r. ⌜ saidTurn r ≡ firstTurn (now (bytes .entry)) (4 * word) ⌝ }
+{
+    if is_usual(bytes, word) {
+        return Turn::Next(word + 1 + octets::wide(bytes[4 * word + 3]));
+    }
+    tested_at(bytes, word)
 }
 
 // `Compound::parse`: the first pass over all packets.
@@ -80,10 +131,6 @@ pub fn parse(bytes: &[u8]) -> Checked
             expected: 4,
             actual: end,
         });
-    }
-    let version = bytes[0] / 64;
-    if version != 2 {
-        return Checked::No(Refusal::UnsupportedVersion(version));
     }
     let mut word = 0;
     while word < end / 4 {

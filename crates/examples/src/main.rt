@@ -181,12 +181,24 @@ fn nacks() {
 fn compounds() {
     say(b"Compounds\n");
     say_parse(
+        b"80 CB 00 00 40 CB 00 00",
+        b"\x80\xcb\x00\x00\x40\xcb\x00\x00",
+    );
+    say_parse(
         b"A0 CB 00 00 80 CB 00 00",
         b"\xa0\xcb\x00\x00\x80\xcb\x00\x00",
     );
     say_parse(b"80 CB 00 01", b"\x80\xcb\x00\x01");
     say_parse(b"80 CB 00 00 80", b"\x80\xcb\x00\x00\x80");
     say_parse(b"00 CB 00 01", b"\x00\xcb\x00\x01");
+    say_parse(
+        b"A0 CB 00 01 00 00 00 04",
+        b"\xa0\xcb\x00\x01\x00\x00\x00\x04",
+    );
+    say_parse(
+        b"A0 CB 00 01 00 00 00 02",
+        b"\xa0\xcb\x00\x01\x00\x00\x00\x02",
+    );
 }
 
 fn main() {

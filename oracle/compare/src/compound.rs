@@ -12,6 +12,7 @@ pub fn compare(effort: &Effort) -> Vec<Book> {
     let mut readers = Readers {
         random: effort.random(),
         compound: effort.book("compound_parse"),
+        rule: Book::new("the crate's rule"),
         unknown: effort.book("unknown_parse"),
         step: effort.book("walk_step"),
         walk: Book::new("walk, whole"),
@@ -20,33 +21,49 @@ pub fn compare(effort: &Effort) -> Vec<Book> {
     read_short_inputs(&mut readers);
     read_damaged_compounds(&mut readers);
     read_random_compounds(&mut readers, effort);
+    pass_fixed_compounds(&mut readers);
+    pass_every_padding(&mut readers);
+    pass_pairs(&mut readers);
     let Readers {
         compound,
+        rule,
         unknown,
         step,
         walk,
         ..
     } = readers;
-    vec![compound, unknown, step, walk, compare_write(effort)]
+    vec![compound, rule, unknown, step, walk, compare_write(effort)]
 }
 
 /// The calls that read a compound, each with its book.
 struct Readers {
     random: Random,
     compound: Book,
+    rule: Book,
     unknown: Book,
     step: Book,
     walk: Book,
 }
 
 impl Readers {
-    /// All calls on the same data.
-    fn read(&mut self, data: &[u8]) {
-        let random = &mut self.random;
-        let (said, lent) = read_only(random, data, ours::compound_parse);
-        let expected = expected_compound(data);
+    /// The first pass, and beside it the crate's as compound/specs/Rust.antt has it.
+    fn pass(&mut self, data: &[u8]) {
+        let (said, lent) = read_only(&mut self.random, data, ours::compound_parse);
+        let theirs = match Compound::parse(data) {
+            Ok(_) => Said::answer(&[]),
+            Err(error) => refused_reading(error),
+        };
+        let expected = expected_compound(data, theirs);
         let case = Case::reading(data);
         self.compound.enter(expected, said, &[&lent.kept()], case);
+        let rule = first_pass(data, Rule::Crate);
+        self.rule.enter(theirs, rule, &[&lent.kept()], case);
+    }
+
+    /// All calls on the same data.
+    fn read(&mut self, data: &[u8]) {
+        self.pass(data);
+        let random = &mut self.random;
         let (said, lent) = read_only(random, data, ours::unknown_parse);
         let expected = expected_unknown(data);
         let case = Case::reading(data);
@@ -114,10 +131,58 @@ fn of_known_type(data: &[u8], offset: u64) -> bool {
     (200..=207).contains(&data[offset as usize + 1])
 }
 
-fn expected_compound(data: &[u8]) -> Said {
-    match Compound::parse(data) {
-        Ok(_) => Said::answer(&[]),
-        Err(error) => refused_reading(error),
+/// Whose first pass: that of docs/RULES.md, or the crate's, which looks at the first packet's version at every turn and at no
+/// padding count.
+#[derive(Clone, Copy, PartialEq)]
+enum Rule {
+    Ours,
+    Crate,
+}
+
+/// A first pass, line by line.
+fn first_pass(data: &[u8], rule: Rule) -> Said {
+    let end = data.len();
+    if end == 0 {
+        return Said::refusal(1, &[4, 0]);
+    }
+    let mut at = 0;
+    while at < end {
+        let &[first, _, high, low, ..] = &data[at..] else {
+            return Said::refusal(1, &[at as u64 + 4, end as u64]);
+        };
+        let version = match rule {
+            Rule::Ours => first >> 6,
+            Rule::Crate => data[0] >> 6,
+        };
+        if version != 2 {
+            return Said::refusal(2, &[version.into()]);
+        }
+        let length = 4 * (usize::from(u16::from_be_bytes([high, low])) + 1);
+        let next = at + length;
+        if end < next {
+            return Said::refusal(1, &[next as u64, end as u64]);
+        }
+        if first & 0x20 != 0 {
+            let count = usize::from(data[next - 1]);
+            let fits = count != 0 && count % 4 == 0 && count <= length - 4;
+            if next < end || rule == Rule::Ours && !fits {
+                return Said::refusal(5, &[]);
+            }
+        }
+        at = next;
+    }
+    Said::answer(&[])
+}
+
+/// Ours by docs/RULES.md, beside the crate's verdict: whatever the crate refuses has to be refused.
+fn expected_compound(data: &[u8], theirs: Said) -> Expected {
+    let ours = first_pass(data, Rule::Ours);
+    match (theirs.number, ours.number) {
+        _ if theirs == ours => ours.into(),
+        (_, 0) => theirs.into(),
+        (0, 2) => Expected::differing("later version refused", ours),
+        (0, _) => Expected::differing("padding count refused", ours),
+        _ => Expected::differing("refused by another number", ours),
     }
 }
 
@@ -152,7 +217,10 @@ fn expected_step(data: &[u8], offset: u64) -> Said {
 fn read_fixed_compounds(readers: &mut Readers) {
     let table: [(&[u8], Said); 6] = [
         (&[], Said::refusal(1, &[4, 0])),
-        (&[0x80, 0xCB, 0, 0, 0x40, 0xCB, 0, 0], Said::answer(&[])),
+        (
+            &[0x80, 0xCB, 0, 0, 0x40, 0xCB, 0, 0],
+            Said::refusal(2, &[1]),
+        ),
         (&[0xA0, 0xCB, 0, 0, 0x80, 0xCB, 0, 0], Said::refusal(5, &[])),
         (&[0x80, 0xCB, 0, 1], Said::refusal(1, &[8, 4])),
         (&[0x80, 0xCB, 0, 0, 0x80], Said::refusal(1, &[8, 5])),
@@ -187,6 +255,67 @@ fn read_short_inputs(readers: &mut Readers) {
                     readers.read(&data[..length]);
                     readers.step_from_everywhere(&data[..length]);
                 }
+            }
+        }
+    }
+}
+
+/// Versions and padding counts at their turn, with the words of docs/RULES.md as the expectation.
+fn pass_fixed_compounds(readers: &mut Readers) {
+    let table: [(&[u8], Said); 8] = [
+        (
+            &[0x80, 0xCB, 0, 0, 0xC0, 0xCB, 0, 9],
+            Said::refusal(2, &[3]),
+        ),
+        (&[0xA0, 0xCB, 0, 0, 0x40, 0xCB, 0, 0], Said::refusal(5, &[])),
+        (&[0xA0, 0xCB, 0, 0], Said::refusal(5, &[])),
+        (&[0xA0, 0xCB, 0, 1, 0, 0, 0, 0], Said::refusal(5, &[])),
+        (&[0xA0, 0xCB, 0, 1, 0, 0, 0, 2], Said::refusal(5, &[])),
+        (&[0xA0, 0xCB, 0, 1, 0, 0, 0, 4], Said::answer(&[])),
+        (&[0xA0, 0xCB, 0, 1, 0, 0, 0, 5], Said::refusal(5, &[])),
+        (&[0xA0, 0xCB, 0, 1, 0, 0, 0, 8], Said::refusal(5, &[])),
+    ];
+    for (data, expected) in table {
+        let (said, lent) = read_only(&mut readers.random, data, ours::compound_parse);
+        let case = Case::reading(data);
+        readers
+            .compound
+            .table(|book| book.enter(expected, said, &[&lent.kept()], case));
+        readers.pass(data);
+    }
+}
+
+/// One packet with every first and every last byte, at the lengths 4 to 24: those that are no whole words have bytes behind it.
+fn pass_every_padding(readers: &mut Readers) {
+    for length in 4..=24 {
+        let words = (length / 4 - 1) as u16;
+        let mut data = readers.random.bytes(length);
+        data[2..4].copy_from_slice(&words.to_be_bytes());
+        for first in 0..=255 {
+            for last in 0..=255 {
+                data[0] = first;
+                data[length - 1] = last;
+                readers.pass(&data);
+            }
+        }
+    }
+}
+
+/// Two packets with every version and padding bit, and every last byte of the second.
+fn pass_pairs(readers: &mut Readers) {
+    for (one, other) in (0..3).flat_map(|one| (0..6).map(move |other| (one, other))) {
+        for bits in 0..64 {
+            let random = &mut readers.random;
+            let mut data = vec![];
+            for (top, words) in [(bits >> 3, one), (bits & 7, other)] {
+                let first = top << 5 | random.byte() & 0x1F;
+                let kind = random.byte();
+                push_packet(&mut data, random, first, kind, words);
+            }
+            let end = data.len();
+            for last in 0..=255 {
+                data[end - 1] = last;
+                readers.pass(&data);
             }
         }
     }

@@ -7,26 +7,18 @@ use denote.Ref.{now}
 use Rattle.refusal.specs.Outcome.{gave}
 use Rattle.compound.specs.Inner.{saidTurn}
 use Rattle.compound.specs.Pass.{firstTurn}
-use Rattle.compound.proofs.Laws.{turn-on, turn-short, Passing, passing-start, passing-next, passing-no, passing-end, pass-short, pass-version}
+use Rattle.compound.proofs.Laws.{turn-on, turn-short, Passing, passing-start, passing-next, passing-no, passing-end, pass-short}
 use Rattle.compound.proofs.parse.Statement.{statement}
 use Rattle.compound.proofs.parse.Tie as tie
 
 abbrev Inv-loop : tie.InvT-loop
-Inv-loop bytes end version word₀ word = Passing bytes (4 * word)
+Inv-loop bytes end word₀ word = Passing bytes (4 * word)
 
 abbrev μ-loop : tie.MeasureT-loop
-μ-loop bytes end version word₀ word = end / 4 - word
+μ-loop bytes end word₀ word = end / 4 - word
 
 returns : tie.Need-returns Inv-loop μ-loop
 returns c = sym (pass-short _ (c .if1 .taken))
-
-shared-slice-read-version : tie.Need-shared-slice-read-version Inv-loop μ-loop
-shared-slice-read-version c = search needs
-
-returns-2 : tie.Need-returns-2 Inv-loop μ-loop
-returns-2 c =
-    let bytes = now (c .before .before .before .before .args .bytes) in
-    sym (pass-version bytes (c .before .before .if1 .left) (c .if2 .taken))
 
 loop-holds : tie.Need-loop-holds Inv-loop μ-loop
 loop-holds c = passing-start _ (omega arith)
@@ -39,11 +31,11 @@ enum-known-next c = search needs
 
 -- what a turn that goes on said
 goes : (c : tie.After-known-told Inv-loop μ-loop)
-    → firstTurn (now (c .before .before .before .before .before .before .before .before .before .before .args .bytes)) (4 * c .before .before .before .before .before .loop .word) ≡ gave (4 * c .before .next .given .0 .0)
+    → firstTurn (now (c .before .before .before .before .before .before .before .before .args .bytes)) (4 * c .before .before .before .before .before .loop .word) ≡ gave (4 * c .before .next .given .0 .0)
 goes c = sym (c .before .before .before .turn-at .ensures) ∙ ap saidTurn (c .before .next .given .1)
 
 loop-less : tie.Need-loop-less Inv-loop μ-loop
-loop-less c = omega (arith, turn-on _ _ _ (goes c))
+loop-less c = omega (arith, turn-on _ _ _ (goes c) .turned)
 
 loop-again : tie.Need-loop-again Inv-loop μ-loop
 loop-again c = passing-next _ (omega arith) (goes c) (c .before .before .before .before .before .loop .inv)
@@ -51,23 +43,23 @@ loop-again c = passing-next _ (omega arith) (goes c) (c .before .before .before 
 enum-known-r : tie.Need-enum-known-r Inv-loop μ-loop
 enum-known-r c = search needs
 
+returns-2 : tie.Need-returns-2 Inv-loop μ-loop
+returns-2 c = sym (passing-no _ _ (omega arith) (sym (c .before .before .before .turn-at .ensures) ∙ ap saidTurn (c .before .r .given .1)) (c .before .before .before .before .before .loop .inv))
+
+mul-if2 : tie.Need-mul-if2 Inv-loop μ-loop
+mul-if2 c = search needs
+
+mul-t12 : tie.Need-mul-t12 Inv-loop μ-loop
+mul-t12 c = search needs
+
+add-t13 : tie.Need-add-t13 Inv-loop μ-loop
+add-t13 c = search needs
+
 returns-3 : tie.Need-returns-3 Inv-loop μ-loop
-returns-3 c = sym (passing-no _ _ (omega arith) (sym (c .before .before .before .turn-at .ensures) ∙ ap saidTurn (c .before .r .given .1)) (c .before .before .before .before .before .loop .inv))
-
-mul-if3 : tie.Need-mul-if3 Inv-loop μ-loop
-mul-if3 c = search needs
-
-mul-t16 : tie.Need-mul-t16 Inv-loop μ-loop
-mul-t16 c = search needs
-
-add-t17 : tie.Need-add-t17 Inv-loop μ-loop
-add-t17 c = search needs
+returns-3 c = sym (passing-no _ _ (c .if2 .taken) (turn-short _ _ (omega arith)) (c .before .before .loop .inv))
 
 returns-4 : tie.Need-returns-4 Inv-loop μ-loop
-returns-4 c = sym (passing-no _ _ (c .if3 .taken) (turn-short _ _ (omega arith)) (c .before .before .loop .inv))
-
-returns-5 : tie.Need-returns-5 Inv-loop μ-loop
-returns-5 c = sym (passing-end (c .if3 .left) (c .before .before .loop .inv))
+returns-4 c = sym (passing-end (c .if2 .left) (c .before .before .loop .inv))
 
 pub parse-spec : {M : Type 1} → statement M
 parse-spec =
@@ -76,17 +68,15 @@ parse-spec =
     Inv-loop
     μ-loop
     returns
-    shared-slice-read-version
-    returns-2
     loop-holds
     turn-at-requires
     enum-known-next
     loop-less
     loop-again
     enum-known-r
+    returns-2
+    mul-if2
+    mul-t12
+    add-t13
     returns-3
-    mul-if3
-    mul-t16
-    add-t17
-    returns-4
-    returns-5)
+    returns-4)
