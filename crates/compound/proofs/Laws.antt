@@ -4,7 +4,7 @@ use mathlib.Core.List.{List, [], _∷_}
 use mathlib.Core.Path.{_≡_, refl, sym, ap, _∙_}
 use mathlib.Core.Bool.{Bool, true, false, cond, not}
 use native.Mathlib.Omega.{arith}
-use borrow.Author.Tests.{ltb-false, eqb-true, eqb-false, lt-ltb, le-ltb, lt-leb, le-leb, eq-eqb, ne-eqb}
+use borrow.Author.Tests.{ltb-true, ltb-false, eqb-true, eqb-false, lt-ltb, le-ltb, lt-leb, le-leb, eq-eqb, ne-eqb}
 use lib.Dec.{eqb, ltb, leb}
 use lib.IntN.{ℤ}
 use native.Mathlib.Nat.{add-zero}
@@ -16,7 +16,7 @@ use Rattle.utils.specs.Header.{versionOf, paddingBitOf, lengthOf}
 use Rattle.utils.specs.Check.{lastByteOf, paddingFits}
 use Rattle.compound.specs.Pass.{endOf, firstTurn, turnsFrom, passBy, firstPass}
 use Rattle.compound.specs.Walk.{walkStep, step, over, packet, packetAt, last, nextOf, walkNext}
-use Rattle.compound.specs.Inner.{WordsBehind}
+use Rattle.compound.specs.Inner.{WordsBehind, isUsual}
 use Rattle.compound.specs.declared.Packet.{Packet}
 
 -- the header's fields of the packet that starts at an offset, read off the whole bytes
@@ -93,12 +93,25 @@ module _ (bytes : List ℕ) (at n : ℕ) (ends : n ≡ endOf bytes at) (header :
       let own : lengthOf (drop at bytes) ≡ n - at = omega arith in
       walk-header ∙ simp (le-ltb (length bytes) n whole, eq-eqb (getD bytes at 0 / 64) 2 two) (ap (λ (size : ℕ). step (gave (packet (record { start = at; length = size }))) n) own)
 
--- a usual packet: the low byte of its length says where it ends
-pub turn-usual : (bytes : List ℕ) (word low : ℕ) → low ≡ getD bytes (4 * word + 3) 0 → 4 * word + 4 ≤ length bytes → getD bytes (4 * word) 0 / 32 ≡ 4 → getD bytes (4 * word + 2) 0 ≡ 0 → low < length bytes / 4 - word
-    → firstTurn bytes (4 * word) ≡ gave (4 * (word + 1 + low))
-turn-usual bytes word low is header plain short whole =
-    let ends = ends-at bytes (4 * word) low (omega arith) in
-    turn-plain bytes (4 * word) (4 * (word + 1 + low)) (omega (arith, ends)) header (omega arith) (omega arith) (omega arith)
+-- the low byte of a usual packet's length says where it ends
+pub turn-usual : (bytes : List ℕ) (word : ℕ) → 4 * word + 4 ≤ length bytes → isUsual bytes word ≡ true → firstTurn bytes (4 * word) ≡ gave (4 * (word + 1 + getD bytes (4 * word + 3) 0))
+unfolding isUsual
+turn-usual bytes word header usual = go (eqb (getD bytes (4 * word) 0 / 32) 4) (eqb (getD bytes (4 * word + 2) 0) 0) (ltb low (length bytes / 4 - word)) refl refl refl usual
+  where
+    low : ℕ
+    low = getD bytes (4 * word + 3) 0
+
+    go : (b₁ b₂ b₃ : Bool) → eqb (getD bytes (4 * word) 0 / 32) 4 ≡ b₁ → eqb (getD bytes (4 * word + 2) 0) 0 ≡ b₂ → ltb low (length bytes / 4 - word) ≡ b₃ → cond (not b₁) false (cond (not b₂) false b₃) ≡ true
+        → firstTurn bytes (4 * word) ≡ gave (4 * (word + 1 + low))
+    go false b₂ b₃ plain short whole u = never (cc)
+    go true false b₃ plain short whole u = never (cc)
+    go true true false plain short whole u = never (cc)
+    go true true true plain short whole u =
+        let first = eqb-true (getD bytes (4 * word) 0 / 32) 4 plain in
+        let high = eqb-true (getD bytes (4 * word + 2) 0) 0 short in
+        let left = ltb-true low (length bytes / 4 - word) whole in
+        let ends = ends-at bytes (4 * word) low (omega arith) in
+        turn-plain bytes (4 * word) (4 * (word + 1 + low)) (omega (arith, ends)) header (omega arith) (omega arith) (omega arith)
 
 -- no header stands there
 pub turn-short : (bytes : List ℕ) (at : ℕ) → length bytes < at + 4 → firstTurn bytes at ≡ refuse 1 ((at + 4) ∷ length bytes ∷ [])

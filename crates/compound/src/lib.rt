@@ -2,16 +2,14 @@
 use refusal::Checked;
 use refusal::Refusal;
 ghost use mathlib.Core.Path.{_≡_};
-ghost use mathlib.Core.Bool.{true};
 ghost use Prim.Native.Nat.{_+_, _*_, _<_, _≤_};
-ghost use lib.ListN.{length, getD, drop};
-ghost use Rattle.refusal.specs.Outcome.{gave};
+ghost use lib.ListN.{length, drop};
 ghost use Rattle.refusal.specs.Said.{saidChecked};
 ghost use Rattle.utils.specs.Check.{paddingFits};
 ghost use Rattle.compound.specs.Pass.{endOf, firstTurn, firstPass};
 ghost use Rattle.compound.specs.Walk.{walkStep, walkNext, HandsBack};
 ghost use Rattle.compound.specs.Said.{saidWalked};
-ghost use Rattle.compound.specs.Inner.{WordsBehind, saidTurn};
+ghost use Rattle.compound.specs.Inner.{WordsBehind, isUsual, saidTurn};
 
 // One turn of the first pass: where the next packet starts, in words of four bytes.
 enum Turn {
@@ -97,7 +95,7 @@ fn tested_at(bytes: &[u8], word: usize) -> Turn
 // Whether the packet is a usual one: of version 2, without padding, of 1,024 bytes at most, and whole.
 fn is_usual(bytes: &[u8], word: usize) -> bool
     requires { ⌜ 4 * word + 4 ≤ length (now bytes) ⌝ }
-    ensures { λ r. ⌜ (r ≡ true → firstTurn (now (bytes .entry)) (4 * word) ≡ gave (4 * (word + 1 + getD (now (bytes .entry)) (4 * word + 3) 0))) ⌝ }
+    ensures { λ r. ⌜ r ≡ isUsual (now (bytes .entry)) word ⌝ }
 {
     let at = 4 * word;
     if bytes[at] / 32 != 4 {

@@ -8,7 +8,7 @@ use borrow.Author.Tests.{eqb-true, eqb-false, leb-true, eq-eqb, ne-eqb}
 use lib.Dec.{eqb, leb}
 use lib.ListN.{length, take, drop, length-drop, List·getD-append}
 use lib.Seq.{take-all}
-use Rattle.octets.proofs.Logic.{never}
+use Rattle.octets.proofs.Logic.{by-test, never}
 use Rattle.utils.specs.Header.{shortest, versionOf, paddingBitOf, lengthOf}
 use Rattle.utils.specs.Check.{lastByteOf, paddingFits}
 
@@ -51,7 +51,14 @@ fitting packet fits = go (eqb count 0) (eqb (count % 4) 0) (leb (shortest + coun
         let count-some : count ≡ 0 → ⊥ = eqb-false count 0 some in
         record { some = omega arith; even = eqb-true (count % 4) 0 even; behind = leb-true (shortest + count) (lengthOf packet) behind }
 
--- it is a matter of the packet's own bytes alone
+-- a header alone has no room for it
+pub lone-misfits : (packet : List ℕ) → lengthOf packet ≡ shortest → paddingFits packet ≡ false
+lone-misfits packet lone =
+    by-test (paddingFits packet)
+    (λ fits. let f = fitting packet fits in absurd (omega arith))
+    (λ misfits. misfits)
+
+-- the fields, and whether the count fits, are a matter of the packet's own bytes
 module _ (packet behind : List ℕ) (header : shortest ≤ length packet) where
   pub own-version : versionOf (packet ++ behind) ≡ versionOf packet
   own-version = rw (List·getD-append packet behind 0 0 (omega arith))

@@ -1,9 +1,6 @@
--- Where every test holds, the turn goes on.
-use mathlib.Core.Path.{sym}
-use borrow.Author.Tests.{ltb-true}
-use denote.Ref.{now}
-use Rattle.octets.proofs.Logic.{never}
-use Rattle.compound.proofs.Laws.{turn-usual}
+-- Each answer comes where its test comes.
+use borrow.Author.Tests.{eq-eqb, ne-eqb}
+use Rattle.compound.specs.Inner.{isUsual}
 use borrow.Author.Needs.{needs}
 use Rattle.compound.proofs.is_usual.Statement.{statement}
 use Rattle.compound.proofs.is_usual.Tie as tie
@@ -15,7 +12,8 @@ shared-slice-read-if1 : tie.Need-shared-slice-read-if1
 shared-slice-read-if1 c = search needs
 
 returns : tie.Need-returns
-returns c = λ usual. never (cc)
+unfolding isUsual
+returns c = rw (ne-eqb _ _ (c .if1 .taken))
 
 add-if2 : tie.Need-add-if2
 add-if2 c = search needs
@@ -24,7 +22,8 @@ shared-slice-read-if2 : tie.Need-shared-slice-read-if2
 shared-slice-read-if2 c = search needs
 
 returns-2 : tie.Need-returns-2
-returns-2 c = λ usual. never (cc)
+unfolding isUsual
+returns-2 c = rw (eq-eqb _ _ (c .before .before .if1 .left), ne-eqb _ _ (c .if2 .taken))
 
 add-wide : tie.Need-add-wide
 add-wide c = search needs
@@ -39,10 +38,8 @@ sub-result : tie.Need-sub-result
 sub-result c = search needs
 
 returns-3 : tie.Need-returns-3
-returns-3 c = λ usual.
-    let a = c .before .before .before .before .before .before .before in
-    rw (sym (c .wide .ensures .0))
-    (turn-usual (now (a .args .bytes)) (a .args .word) _ (c .wide .ensures .0) (a .pre) (c .before .before .before .before .if1 .left) (c .before .before .if2 .left) (ltb-true _ _ usual))
+unfolding isUsual
+returns-3 c = rw (eq-eqb _ _ (c .before .before .before .before .if1 .left), eq-eqb _ _ (c .before .before .if2 .left), ← (c .wide .ensures .0))
 
 pub is-usual-spec : {M : Type 1} → statement M
 is-usual-spec =

@@ -1,5 +1,7 @@
 -- A usual packet's end, or the answer of all tests.
-use mathlib.Core.Path.{sym}
+use mathlib.Core.Path.{sym, _∙_}
+use denote.Ref.{now}
+use Rattle.compound.proofs.Laws.{turn-usual}
 use borrow.Author.Needs.{needs}
 use Rattle.compound.proofs.turn_at.Statement.{statement}
 use Rattle.compound.proofs.turn_at.Tie as tie
@@ -26,7 +28,9 @@ add-t10 : tie.Need-add-t10
 add-t10 c = search needs
 
 returns : tie.Need-returns
-returns c = rw (c .wide .ensures .0) (sym (c .before .before .before .is-usual .ensures (c .before .before .if1 .taken)))
+returns c =
+    let a = c .before .before .before .before .before in
+    rw (c .wide .ensures .0) (sym (turn-usual (now (a .args .bytes)) (a .args .word) (a .pre) (sym (c .before .before .before .is-usual .ensures) ∙ c .before .before .if1 .taken)))
 
 tested-at-requires : tie.Need-tested-at-requires
 tested-at-requires c κs = search needs
