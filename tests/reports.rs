@@ -120,6 +120,25 @@ fn padding_before_the_last_packet_is_refused() {
     );
 }
 
+/// Where its packet is not the last, nothing is said of a block.
+#[test]
+fn a_padded_block_before_the_last_packet_is_not_read_alone() {
+    let mut bytes = vec![0xaf, 0xcd, 0, 5];
+    bytes.resize(23, 0);
+    bytes.extend([2, 0x80, 0xcb, 0, 0]);
+    says(
+        "compound",
+        &bytes,
+        1,
+        &[
+            "first pass: refused 5: the packet at 0 has padding and is not the last",
+            " offset  type  name   count  length  padding  holds",
+            "      0   205  RTPFB     15      24        2  twcc",
+            "     24   203  BYE        0       4        -  -",
+        ],
+    );
+}
+
 #[test]
 fn padding_comes_before_a_later_version() {
     says(

@@ -63,16 +63,18 @@ fn first_padded(bytes: &[u8]) -> usize {
 fn misfit(line: [u8; LONGEST], p: usize, bytes: &[u8], at: usize) {
     let mut line = line;
     let p = line::labelled(&mut line, p, b"refused 5: the packet at ", at as u64);
-    let p = wrong(&mut line, p, bytes, at);
+    if compound::walk_next(bytes, at) < bytes.len() {
+        let p = line::text(&mut line, p, b" has padding and is not the last");
+        line::write(line, p, STDOUT_FILENO);
+        return;
+    }
+    let packet = compound::walk_part(bytes, at);
+    let p = misfit_count(&mut line, p, padding_count(packet));
     line::write(line, p, STDOUT_FILENO);
-    read_alone(bytes, compound::walk_part(bytes, at));
+    read_alone(bytes, packet);
 }
 
-fn wrong(line: &mut [u8; LONGEST], p: usize, bytes: &[u8], at: usize) -> usize {
-    if compound::walk_next(bytes, at) < bytes.len() {
-        return line::text(line, p, b" has padding and is not the last");
-    }
-    let count = padding_count(compound::walk_part(bytes, at));
+fn misfit_count(line: &mut [u8; LONGEST], p: usize, count: u64) -> usize {
     let p = line::labelled(line, p, b" has padding count ", count);
     if count == 0 {
         return p;

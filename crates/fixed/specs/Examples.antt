@@ -7,7 +7,6 @@ use lib.IntN.{ℤ, pos}
 use lib.ListN.{replicate}
 use Rattle.refusal.specs.Outcome.{Outcome, gave, refuse}
 use Rattle.compound.specs.Pass.{firstPass}
-use Rattle.compound.specs.Rust.{rustPass}
 use Rattle.compound.specs.Walk.{Step, step, packet, walkStep}
 use Rattle.nack_store.specs.Bits.{addedAll, emptyStore}
 use Rattle.nack.specs.Entries.{nackBytes, readNack}
@@ -25,8 +24,8 @@ pub data Row : Type 0 where
   writeNack : List ℕ → List ℕ → Row
   -- bytes; the numbers that they name
   readNumbers : List ℕ → List ℕ → Row
-  -- bytes; the first pass's verdict, and the verdict of the Rust's
-  pass : List ℕ → Outcome Unit → Outcome Unit → Row
+  -- bytes; the first pass's verdict
+  pass : List ℕ → Outcome Unit → Row
   -- bytes and an offset; what the walk's step meets, and where it goes on
   walk : List ℕ → ℕ → Step → Row
 
@@ -36,7 +35,7 @@ settled (writeBlock limit list taken block) = writeBlock limit list (takenOf lim
 settled (readBlock block base words) = readBlock block (baseOf block) (listed block)
 settled (writeNack numbers bytes) = writeNack numbers (nackBytes (addedAll emptyStore numbers))
 settled (readNumbers bytes numbers) = readNumbers bytes (readNack bytes)
-settled (pass bytes ours theirs) = pass bytes (firstPass bytes) (rustPass bytes)
+settled (pass bytes verdict) = pass bytes (firstPass bytes)
 settled (walk bytes at met) = walk bytes at (walkStep bytes at)
 
 unfoldable pub table : List Row
@@ -63,14 +62,14 @@ table =
     ∷ writeNack (0 ∷ 16 ∷ []) (0x00 ∷ 0x00 ∷ 0x80 ∷ 0x00 ∷ [])
     ∷ writeNack (0 ∷ 17 ∷ []) (0x00 ∷ 0x00 ∷ 0x00 ∷ 0x00 ∷ 0x00 ∷ 0x11 ∷ 0x00 ∷ 0x00 ∷ [])
     ∷ readNumbers (0xFF ∷ 0xFF ∷ 0x00 ∷ 0x01 ∷ []) (65535 ∷ 0 ∷ [])
-    ∷ pass (0x80 ∷ 0xCB ∷ 0x00 ∷ 0x00 ∷ 0x40 ∷ 0xCB ∷ 0x00 ∷ 0x00 ∷ []) (refuse 2 (1 ∷ [])) (gave tt)
-    ∷ pass (0xA0 ∷ 0xCB ∷ 0x00 ∷ 0x00 ∷ 0x40 ∷ 0xCB ∷ 0x00 ∷ 0x00 ∷ []) (refuse 5 []) (refuse 5 [])
-    ∷ pass (0xA0 ∷ 0xCB ∷ 0x00 ∷ 0x00 ∷ []) (refuse 5 []) (gave tt)
-    ∷ pass (0xA0 ∷ 0xCB ∷ 0x00 ∷ 0x01 ∷ 0x00 ∷ 0x00 ∷ 0x00 ∷ 0x02 ∷ []) (refuse 5 []) (gave tt)
-    ∷ pass (0xA0 ∷ 0xCB ∷ 0x00 ∷ 0x01 ∷ 0x00 ∷ 0x00 ∷ 0x00 ∷ 0x04 ∷ []) (gave tt) (gave tt)
-    ∷ pass (0xA0 ∷ 0xCB ∷ 0x00 ∷ 0x01 ∷ 0x00 ∷ 0x00 ∷ 0x00 ∷ 0x08 ∷ []) (refuse 5 []) (gave tt)
+    ∷ pass (0x80 ∷ 0xCB ∷ 0x00 ∷ 0x00 ∷ 0x40 ∷ 0xCB ∷ 0x00 ∷ 0x00 ∷ []) (refuse 2 (1 ∷ []))
     ∷ walk (0x80 ∷ 0xCB ∷ 0x00 ∷ 0x00 ∷ 0x40 ∷ 0xCB ∷ 0x00 ∷ 0x00 ∷ []) 0 (step (gave (packet (record { start = 0; length = 4 }))) 4)
     ∷ walk (0x80 ∷ 0xCB ∷ 0x00 ∷ 0x00 ∷ 0x40 ∷ 0xCB ∷ 0x00 ∷ 0x00 ∷ []) 4 (step (refuse 2 (1 ∷ [])) 8)
+    ∷ pass (0xA0 ∷ 0xCB ∷ 0x00 ∷ 0x00 ∷ 0x40 ∷ 0xCB ∷ 0x00 ∷ 0x00 ∷ []) (refuse 5 [])
+    ∷ pass (0xA0 ∷ 0xCB ∷ 0x00 ∷ 0x00 ∷ []) (refuse 5 [])
+    ∷ pass (0xA0 ∷ 0xCB ∷ 0x00 ∷ 0x01 ∷ 0x00 ∷ 0x00 ∷ 0x00 ∷ 0x02 ∷ []) (refuse 5 [])
+    ∷ pass (0xA0 ∷ 0xCB ∷ 0x00 ∷ 0x01 ∷ 0x00 ∷ 0x00 ∷ 0x00 ∷ 0x04 ∷ []) (gave tt)
+    ∷ pass (0xA0 ∷ 0xCB ∷ 0x00 ∷ 0x01 ∷ 0x00 ∷ 0x00 ∷ 0x00 ∷ 0x08 ∷ []) (refuse 5 [])
     ∷ []
 
 -- the claim
