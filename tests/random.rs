@@ -64,6 +64,35 @@ fn compounds() {
     two_hundred("compound", 1);
 }
 
+/// One to four packets, some padded and some of another version, whose padding counts fit or nearly do.
+fn padded(random: &mut Random) -> Vec<u8> {
+    let mut bytes = vec![];
+    for _ in 0..1 + random.below(4) {
+        let version = if random.below(8) == 0 { 1 } else { 2 };
+        let padding = u8::from(random.below(3) == 0);
+        let format = [0, 1, 15][random.below(3) as usize];
+        let kind = [203, 205, 205, 206][random.below(4) as usize];
+        let words = random.below(9) as u8;
+        bytes.extend([version << 6 | padding << 5 | format, kind, 0, words]);
+        bytes.extend(random.bytes(4 * usize::from(words)));
+        if words > 0 {
+            *bytes.last_mut().unwrap() = random.below(4 * u64::from(words) + 6) as u8;
+        }
+    }
+    bytes
+}
+
+#[test]
+fn padded_compounds() {
+    let mut random = Random(5);
+    for _ in 0..600 {
+        let bytes = padded(&mut random);
+        let words = ["compound", "-"];
+        let (status, text) = report::on("compound", &bytes);
+        with_input(&words, &bytes).ended(&words, status, &text, "");
+    }
+}
+
 #[test]
 fn nacks() {
     two_hundred("nack", 2);

@@ -1,4 +1,5 @@
--- The first pass of rtcp-types 0.3.0 (`Compound::parse`), for one theorem alone: whatever it refuses, ours refuses.
+-- The first pass of rtcp-types 0.3.0 (`Compound::parse`), for one theorem alone: whatever it refuses, ours refuses. That the crate goes
+-- by this rule, numbers included, is shown by running it (oracle/compare, `the crate's rule`).
 use Prim.Native.Nat.{ℕ, _+_}
 use mathlib.Core.List.{List, [], _∷_}
 use mathlib.Core.Bool.{cond, not}

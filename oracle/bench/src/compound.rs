@@ -1,4 +1,4 @@
-//! Copying, the plain writer, and parsing and walking compounds of 1,400 bytes.
+//! Copying, the plain writer, and parsing and walking compounds: of 1,400 bytes, of a real sender, and of long packets.
 
 use std::hint::black_box;
 
@@ -17,9 +17,14 @@ const WHOLE: usize = 1_400;
 pub fn rows() -> Vec<Row> {
     let mut rows = Vec::new();
     for packets in [7, 50, 350] {
-        rows.push(parse(packets));
+        rows.push(parse(format!("{packets} packets"), compound(packets)));
         rows.push(parse_and_walk(packets));
     }
+    let sent = "4 packets as oRTP sent them".to_string();
+    rows.push(parse(sent, packets_of(&[52, 12, 12, 16])));
+    let long = "7 packets above 1024 bytes".to_string();
+    let lengths = [1_028, 2_000, 1_200, 1_456, 1_800, 1_100, 1_304];
+    rows.push(parse(long, packets_of(&lengths)));
     for length in [16, 1_200, 60_000] {
         rows.push(write(length));
         rows.push(write_beside_copy(length));
@@ -27,19 +32,26 @@ pub fn rows() -> Vec<Row> {
     rows
 }
 
-/// Packets of equal length that fill the compound.
-fn compound(packets: usize) -> Vec<u8> {
-    let length = WHOLE / packets;
-    let mut packet = vec![0; length];
-    packet[..2].copy_from_slice(&[0x80, KIND]);
-    packet[2..4].copy_from_slice(&(length as u16 / 4 - 1).to_be_bytes());
-    packet.repeat(packets)
+/// Packets of these lengths, end to end.
+fn packets_of(lengths: &[usize]) -> Vec<u8> {
+    let mut data = Vec::new();
+    for &length in lengths {
+        let start = data.len();
+        data.extend([0x80, KIND]);
+        data.extend((length as u16 / 4 - 1).to_be_bytes());
+        data.resize(start + length, 0);
+    }
+    data
 }
 
-fn parse(packets: usize) -> Row {
-    Row::new(format!("parse, {packets} packets"), move || {
-        let data = compound(packets);
-        let same = data.clone();
+/// Packets of equal length that fill the compound.
+fn compound(packets: usize) -> Vec<u8> {
+    packets_of(&vec![WHOLE / packets; packets])
+}
+
+fn parse(what: String, data: Vec<u8>) -> Row {
+    Row::new(format!("parse, {what}"), move || {
+        let (data, same) = (data.clone(), data.clone());
         (
             move || {
                 black_box(ours::compound_parse(black_box(&data)));
