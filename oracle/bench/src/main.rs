@@ -72,11 +72,21 @@ fn all_rows() -> impl Iterator<Item = Row> {
     PARTS.iter().flat_map(|(_, rows)| rows())
 }
 
+/// How often a part's rows are measured one after the other, so that a spell in which the machine is slow spoils no row.
+const ROUNDS: usize = 4;
+
 fn measure((name, rows): &Part) {
+    let rows = rows();
+    let mut best = vec![(f64::INFINITY, f64::INFINITY); rows.len()];
+    for _ in 0..ROUNDS {
+        for (row, best) in rows.iter().zip(&mut best) {
+            let (ours, rust) = row.measure();
+            *best = (best.0.min(ours), best.1.min(rust));
+        }
+    }
     println!("| {name} | ours, ns | Rust, ns | times as quick |");
     println!("|---|---:|---:|---:|");
-    for row in rows() {
-        let (ours, rust) = row.measure();
+    for (row, (ours, rust)) in rows.iter().zip(best) {
         println!(
             "| {} | {ours:.1} | {rust:.1} | {:.2} |",
             row.name,
