@@ -4,10 +4,22 @@
 /// A report, and the exit status: 0, or 1 where something was refused.
 pub type Report = (i32, String);
 
-/// The report of a command on bytes.
+/// Where the bytes stand: whether their file is hex text, and how many bytes of it come before them.
+#[derive(Clone, Copy, Default)]
+pub struct Place {
+    pub hex: bool,
+    pub start: usize,
+}
+
+/// The report of a command on a whole file of bytes.
 pub fn on(command: &str, bytes: &[u8]) -> Report {
+    on_part(command, bytes, Place::default())
+}
+
+/// The report of a command on bytes that stand somewhere in a file.
+pub fn on_part(command: &str, bytes: &[u8], place: Place) -> Report {
     match command {
-        "compound" => compound(bytes),
+        "compound" => compound(bytes, place),
         "nack" => nack(bytes),
         _ => twcc(bytes),
     }
@@ -39,7 +51,7 @@ fn end_of(bytes: &[u8], at: usize) -> Result<usize, String> {
     }
 }
 
-fn first_pass(bytes: &[u8]) -> Result<(), String> {
+fn first_pass(bytes: &[u8], place: Place) -> Result<(), String> {
     if bytes.is_empty() {
         return Err(too_short(4, 0));
     }
@@ -61,7 +73,7 @@ fn first_pass(bytes: &[u8]) -> Result<(), String> {
                 }
                 _ => return Ok(()),
             };
-            let alone = block_alone(bytes, at, end);
+            let alone = block_alone(bytes, at, end, place);
             return Err(format!("refused 5: the packet at {at} {wrong}\n{alone}"));
         }
         at = end;
@@ -70,14 +82,15 @@ fn first_pass(bytes: &[u8]) -> Result<(), String> {
 }
 
 /// How the block of a last packet whose padding count is no multiple of four is read, where there is one.
-fn block_alone(bytes: &[u8], at: usize, end: usize) -> String {
+fn block_alone(bytes: &[u8], at: usize, end: usize, place: Place) -> String {
     let padding = usize::from(bytes[end - 1]);
     let holds = holds(&bytes[at..end]);
     if end < bytes.len() || padding % 4 == 0 || holds == "-" || end < at + 12 + padding {
         return String::new();
     }
-    let (skip, take) = (at + 12, end - at - 12 - padding);
-    format!("its block alone: bogslipper {holds} --skip {skip} --take {take}\n")
+    let hex = if place.hex { " --hex" } else { "" };
+    let (skip, take) = (place.start + at + 12, end - at - 12 - padding);
+    format!("its block alone: bogslipper {holds}{hex} --skip {skip} --take {take} FILE\n")
 }
 
 fn holds(packet: &[u8]) -> &'static str {
@@ -88,8 +101,8 @@ fn holds(packet: &[u8]) -> &'static str {
     }
 }
 
-fn compound(bytes: &[u8]) -> Report {
-    let (mut status, mut text) = match first_pass(bytes) {
+fn compound(bytes: &[u8], place: Place) -> Report {
+    let (mut status, mut text) = match first_pass(bytes, place) {
         Ok(()) => (0, format!("first pass: accepted, {} bytes\n", bytes.len())),
         Err(refused) => (1, format!("first pass: {refused}")),
     };

@@ -1,7 +1,13 @@
 //! What the command reports: on the samples and on a few bytes as written by hand, on each datagram of real traffic as a
 //! second reader has it. Whole texts are compared, byte for byte.
 
-use command_tests::{bogslipper, report, root, sample, with_input};
+use command_tests::{bogslipper, file, report, root, sample, with_input};
+
+/// A whole file of hex text.
+const HEX: report::Place = report::Place {
+    hex: true,
+    start: 0,
+};
 
 /// A text of tests/expected.
 fn expected(name: &str) -> String {
@@ -15,7 +21,7 @@ fn reports(command: &str, name: &str, status: i32) {
     let text = expected(&format!("{name}.txt"));
     bogslipper(&words).ended(&words, status, &text, "");
     let bytes = report::hex(&std::fs::read(&path).unwrap()).unwrap();
-    assert_eq!(report::on(command, &bytes), (status, text));
+    assert_eq!(report::on_part(command, &bytes, HEX), (status, text));
 }
 
 #[test]
@@ -178,7 +184,7 @@ fn padding_counts_that_do_not_fit_are_refused() {
             1,
             &[
                 "first pass: refused 5: the packet at 4 has padding count 1, which is not a multiple of 4",
-                "its block alone: bogslipper nack --skip 16 --take 7",
+                "its block alone: bogslipper nack --skip 16 --take 7 FILE",
             ],
         ),
         (4, 0, &["first pass: accepted, 24 bytes"]),
@@ -187,7 +193,7 @@ fn padding_counts_that_do_not_fit_are_refused() {
             1,
             &[
                 "first pass: refused 5: the packet at 4 has padding count 7, which is not a multiple of 4",
-                "its block alone: bogslipper nack --skip 16 --take 1",
+                "its block alone: bogslipper nack --skip 16 --take 1 FILE",
             ],
         ),
         (8, 0, &["first pass: accepted, 24 bytes"]),
@@ -284,6 +290,33 @@ fn skip_and_take_leave_a_part() {
     bogslipper(&words).ended(&words, 0, text, "");
 }
 
+/// The words that a report gives for a block read that block, from the same file, wherever in it the report started.
+#[test]
+fn the_words_for_a_block_read_it() {
+    let path = sample("padded.hex");
+    let bytes = report::hex(&std::fs::read(&path).unwrap()).unwrap();
+    let (status, text) = report::on("twcc", &bytes[12..30]);
+    for start in [0, 42] {
+        let mut capture = vec![0x5A; start];
+        capture.extend(&bytes);
+        let path = file(&format!("padded-behind-{start}"), &capture);
+        let skip = start.to_string();
+        let words = ["compound", "--skip", &skip, &path];
+        let place = report::Place { hex: false, start };
+        let (refused, report) = report::on_part("compound", &bytes, place);
+        bogslipper(&words).ended(&words, refused, &report, "");
+        let given = report.lines().nth(1).unwrap();
+        let given = given.strip_prefix("its block alone: bogslipper ").unwrap();
+        let words: Vec<&str> = given.split(' ').collect();
+        let words: Vec<&str> = words
+            .iter()
+            .map(|word| if *word == "FILE" { &path } else { *word })
+            .collect();
+        bogslipper(&words).ended(&words, status, &text, "");
+        std::fs::remove_file(&path).unwrap();
+    }
+}
+
 /// Every datagram's packets lie end to end, and every block in it is read to its last entry. The first pass accepts all of them
 /// but those that a sender padded by 1 to 3 bytes.
 #[test]
@@ -296,14 +329,17 @@ fn the_traffic() {
         {
             let bytes = report::hex(line.as_bytes()).unwrap();
             let words = ["compound", "--hex", "-"];
-            let (status, text) = report::on("compound", &bytes);
+            let (status, text) = report::on_part("compound", &bytes, HEX);
             with_input(&words, line.as_bytes()).ended(&words, status, &text, "");
             let table = text.lines().skip_while(|row| !row.starts_with(" offset"));
             let rows: Vec<&str> = table.skip(1).collect();
             assert!(!rows.iter().any(|row| row.starts_with("walk")), "{line}");
             if status == 1 {
                 assert!(text.contains("which is not a multiple of 4"), "{line}");
-                assert!(text.contains("its block alone: bogslipper twcc"), "{line}");
+                assert!(
+                    text.contains("its block alone: bogslipper twcc --hex"),
+                    "{line}"
+                );
                 assert!(matches!(bytes[bytes.len() - 1], 1..=3), "{line}");
                 refused += 1;
             }

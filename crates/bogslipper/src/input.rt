@@ -23,6 +23,12 @@ pub enum Input {
     Trouble,
 }
 
+// Where the bytes of a report stand: whether FILE is hex text, and how many of its bytes come before them.
+pub struct Place {
+    pub hex: bool,
+    pub start: usize,
+}
+
 // Reads a file, or standard input where its name is "-", into the front of `bytes`.
 pub fn read(path: &[u8], bytes: &mut [u8]) -> Input {
     if is_dash(path) {

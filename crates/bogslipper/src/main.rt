@@ -13,6 +13,7 @@ mod words;
 use ask::Asked;
 use ask::Count;
 use input::Input;
+use input::Place;
 use libc::STDERR_FILENO;
 use libc::STDOUT_FILENO;
 
@@ -134,7 +135,7 @@ fn within(
     let whole = octets::lesser(size, bytes.len());
     let start = octets::lesser(skip, whole);
     let end = start + octets::lesser(take, whole - start);
-    print(report, &bytes[start..end])
+    print(report, &bytes[start..end], Place { hex, start })
 }
 
 fn read(path: &[u8], hex: bool, bytes: &mut [u8]) -> Input {
@@ -147,9 +148,9 @@ fn read(path: &[u8], hex: bool, bytes: &mut [u8]) -> Input {
     Input::Bytes(size)
 }
 
-fn print(report: Report, bytes: &[u8]) -> u8 {
+fn print(report: Report, bytes: &[u8], place: Place) -> u8 {
     let fine = match report {
-        Report::Compound => packets::report(bytes),
+        Report::Compound => packets::report(bytes, place),
         Report::Nack => numbers::report(bytes),
         Report::Twcc => entries::report(bytes),
     };

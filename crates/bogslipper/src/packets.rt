@@ -1,4 +1,6 @@
 // `bogslipper compound`: the first pass's verdict, then the packets that the walk finds.
+use crate::input::Place;
+use crate::input::ROOM;
 use crate::line;
 use crate::line::LONGEST;
 use crate::words;
@@ -17,14 +19,14 @@ enum Block {
 }
 
 // Whether nothing was refused.
-pub fn report(bytes: &[u8]) -> bool {
-    let passed = verdict(bytes);
+pub fn report(bytes: &[u8], place: Place) -> bool {
+    let passed = verdict(bytes, place);
     heading();
     let walked = walk(bytes);
     passed && walked
 }
 
-fn verdict(bytes: &[u8]) -> bool {
+fn verdict(bytes: &[u8], place: Place) -> bool {
     let mut line = [0u8; LONGEST];
     let p = line::text(&mut line, 0, b"first pass: ");
     match compound::parse(bytes) {
@@ -36,7 +38,7 @@ fn verdict(bytes: &[u8]) -> bool {
         }
         Checked::No(r) => {
             match r {
-                Refusal::InvalidPadding => misfit(line, p, bytes, first_padded(bytes)),
+                Refusal::InvalidPadding => misfit(line, p, bytes, place),
                 _ => {
                     let p = words::refused(&mut line, p, r);
                     line::write(line, p, STDOUT_FILENO);
@@ -59,9 +61,10 @@ fn first_padded(bytes: &[u8]) -> usize {
     at
 }
 
-// What is wrong with the padding of the packet at an offset, and how its block is read all the same.
-fn misfit(line: [u8; LONGEST], p: usize, bytes: &[u8], at: usize) {
+// What is wrong with the padding of a packet, and how its block is read all the same.
+fn misfit(line: [u8; LONGEST], p: usize, bytes: &[u8], place: Place) {
     let mut line = line;
+    let at = first_padded(bytes);
     let p = line::labelled(&mut line, p, b"refused 5: the packet at ", at as u64);
     if compound::walk_next(bytes, at) < bytes.len() {
         let p = line::text(&mut line, p, b" has padding and is not the last");
@@ -71,7 +74,7 @@ fn misfit(line: [u8; LONGEST], p: usize, bytes: &[u8], at: usize) {
     let packet = compound::walk_part(bytes, at);
     let p = misfit_count(&mut line, p, padding_count(packet));
     line::write(line, p, STDOUT_FILENO);
-    read_alone(bytes, packet);
+    read_alone(bytes, packet, place);
 }
 
 fn misfit_count(line: &mut [u8; LONGEST], p: usize, count: u64) -> usize {
@@ -85,8 +88,9 @@ fn misfit_count(line: &mut [u8; LONGEST], p: usize, count: u64) -> usize {
     line::text(line, p, b", which is above its length less 4")
 }
 
-// How the block in the last packet is read all the same, where its padding count is wrong only in being no multiple of 4.
-fn read_alone(bytes: &[u8], packet: &[u8]) {
+// How the block in the last packet is read all the same, from the same FILE, where its padding count is wrong only in being no
+// multiple of 4.
+fn read_alone(bytes: &[u8], packet: &[u8], place: Place) {
     let padding = padding_count(packet) as usize;
     if padding % 4 == 0 {
         return;
@@ -101,21 +105,27 @@ fn read_alone(bytes: &[u8], packet: &[u8]) {
     if bytes.len() < behind {
         return;
     }
-    let skip = bytes.len() - behind;
+    let skip = octets::lesser(place.start, ROOM) + (bytes.len() - behind);
     let take = behind - padding;
     match block_in(packet) {
-        Block::Nack => block_alone(b"nack", skip, take),
-        Block::Twcc => block_alone(b"twcc", skip, take),
+        Block::Nack => block_alone(b"nack", place.hex, skip, take),
+        Block::Twcc => block_alone(b"twcc", place.hex, skip, take),
         Block::Nothing => {}
     }
 }
 
-fn block_alone(command: &[u8], skip: usize, take: usize) {
+fn block_alone(command: &[u8], hex: bool, skip: usize, take: usize) {
     let mut line = [0u8; LONGEST];
     let p = line::text(&mut line, 0, b"its block alone: bogslipper ");
     let p = line::text(&mut line, p, command);
+    let p = if hex {
+        line::text(&mut line, p, b" --hex")
+    } else {
+        p
+    };
     let p = line::labelled(&mut line, p, b" --skip ", skip as u64);
     let p = line::labelled(&mut line, p, b" --take ", take as u64);
+    let p = line::text(&mut line, p, b" FILE");
     line::write(line, p, STDOUT_FILENO);
 }
 

@@ -168,6 +168,16 @@ turn-on bytes at next goes =
         let set : paddingBitOf (drop at bytes) ≡ 0 → ⊥ = eqb-false (paddingBitOf (drop at bytes)) 0 bit in
         record { turned = whole own past ends; padding = fits (omega arith) (omega (arith, ltb-false e (length bytes) more)) count }
 
+-- one turn more, and none past the end
+pub turns-step : (most : ℕ) (bytes : List ℕ) (at next : ℕ) → at < length bytes → firstTurn bytes at ≡ gave next → turnsFrom firstTurn (suc most) bytes at ≡ turnsFrom firstTurn most bytes next
+unfolding turnsFrom
+turns-step most bytes at next more goes = simp (lt-ltb at (length bytes) more, goes)
+
+pub turns-end : (most : ℕ) (bytes : List ℕ) (at : ℕ) → length bytes ≤ at → turnsFrom firstTurn most bytes at ≡ gave tt
+unfolding turnsFrom
+turns-end zero bytes at none = refl
+turns-end (suc most) bytes at none = simp (le-ltb at (length bytes) none)
+
 -- the turns that are left from an offset on say what the whole pass says
 pub record Passing (bytes : List ℕ) (at : ℕ) : Type 0 where
   pub turns : ℕ
@@ -184,7 +194,6 @@ passing-start bytes some = record { turns = length bytes; enough = omega arith; 
 
 -- it goes on
 pub passing-next : {bytes : List ℕ} {at : ℕ} (next : ℕ) → at < length bytes → firstTurn bytes at ≡ gave next → Passing bytes at → Passing bytes next
-unfolding turnsFrom
 passing-next {bytes} {at} next more goes p = go (p .turns) (p .enough) (p .same)
   where
     on : Turned bytes at next
@@ -192,7 +201,7 @@ passing-next {bytes} {at} next more goes p = go (p .turns) (p .enough) (p .same)
 
     go : (turns : ℕ) → length bytes - at ≤ turns → turnsFrom firstTurn turns bytes at ≡ firstPass bytes → Passing bytes next
     go zero enough same = absurd (omega arith)
-    go (suc turns) enough same = record { turns = turns; enough = omega (arith, on); within = on .within; same = simp (lt-ltb at (length bytes) more, goes) at same }
+    go (suc turns) enough same = record { turns = turns; enough = omega (arith, on); within = on .within; same = sym (turns-step turns bytes at next more goes) ∙ same }
 
 -- it refuses
 pub passing-no : {bytes : List ℕ} {at : ℕ} (number : ℕ) (values : List ℤ) → at < length bytes → firstTurn bytes at ≡ refused number values → Passing bytes at
@@ -206,12 +215,7 @@ passing-no {bytes} {at} number values more refuses p = go (p .turns) (p .enough)
 
 -- it is at the end
 pub passing-end : {bytes : List ℕ} {at : ℕ} → length bytes ≤ at → Passing bytes at → firstPass bytes ≡ gave tt
-unfolding turnsFrom
-passing-end {bytes} {at} past p = go (p .turns) (p .same)
-  where
-    go : (turns : ℕ) → turnsFrom firstTurn turns bytes at ≡ firstPass bytes → firstPass bytes ≡ gave tt
-    go zero same = sym same
-    go (suc turns) same = sym (simp (le-ltb at (length bytes) past) at same)
+passing-end {bytes} {at} past p = sym (p .same) ∙ turns-end (p .turns) bytes at past
 
 -- bytes that have no header, none among them, are too short
 pub pass-short : (bytes : List ℕ) → length bytes < 4 → firstPass bytes ≡ refuse 1 (4 ∷ length bytes ∷ [])

@@ -48,9 +48,10 @@ pub packets-more : (most : ℕ) (bytes : List ℕ) (at : ℕ) → at < length by
 unfolding packetsFrom
 packets-more most bytes at more = simp (lt-ltb at (length bytes) more)
 
-pub packets-none : (most : ℕ) (bytes : List ℕ) (at : ℕ) → length bytes ≤ at → packetsFrom (suc most) bytes at ≡ []
+pub packets-none : (most : ℕ) (bytes : List ℕ) (at : ℕ) → length bytes ≤ at → packetsFrom most bytes at ≡ []
 unfolding packetsFrom
-packets-none most bytes at none = simp (le-ltb at (length bytes) none)
+packets-none zero bytes at none = refl
+packets-none (suc most) bytes at none = simp (le-ltb at (length bytes) none)
 
 walk-visits : (most : ℕ) (bytes : List ℕ) (at : ℕ) → turnsFrom firstTurn most bytes at ≡ gave tt → walkedFrom most bytes at ≡ packetsFrom most bytes at
 unfolding packetsFrom walkedFrom
@@ -59,7 +60,7 @@ walk-visits (suc most) bytes at passes = go (accepted most bytes at passes) (λ 
   where
     go : Accepted most bytes at → (turnsFrom firstTurn most bytes (endOf bytes at) ≡ gave tt → walkedFrom most bytes (endOf bytes at) ≡ packetsFrom most bytes (endOf bytes at))
         → walkedFrom (suc most) bytes at ≡ packetsFrom (suc most) bytes at
-    go (ended none) again = rw (walk-over bytes at none, packets-none most bytes at none)
+    go (ended none) again = rw (walk-over bytes at none, packets-none (suc most) bytes at none)
     go (passed more t goes) again = rw (walk-on bytes at (t .turned), packets-more most bytes at more, again goes)
 
 packets-whole : (most : ℕ) (bytes : List ℕ) (at : ℕ) → length bytes - at ≤ most → turnsFrom firstTurn most bytes at ≡ gave tt → endToEnd (packetsFrom most bytes at) ≡ drop at bytes
@@ -69,7 +70,7 @@ packets-whole (suc most) bytes at enough passes = go (accepted most bytes at pas
   where
     go : Accepted most bytes at → (length bytes - endOf bytes at ≤ most → turnsFrom firstTurn most bytes (endOf bytes at) ≡ gave tt → endToEnd (packetsFrom most bytes (endOf bytes at)) ≡ drop (endOf bytes at) bytes)
         → endToEnd (packetsFrom (suc most) bytes at) ≡ drop at bytes
-    go (ended none) again = rw (packets-none most bytes at none) (sym (drop-of-length-le bytes none))
+    go (ended none) again = rw (packets-none (suc most) bytes at none) (sym (drop-of-length-le bytes none))
     go (passed more t goes) again =
         rw (packets-more most bytes at more, again (let m = t .turned .moves in omega arith) goes, ← (drop-drop (lengthOf (drop at bytes)) at bytes))
         (take-append-drop (lengthOf (drop at bytes)) (drop at bytes))

@@ -4,7 +4,7 @@ use mathlib.Core.List.{List, [], _∷_, _++_, append-assoc}
 use mathlib.Core.Path.{_≡_, refl, sym, ap, _∙_}
 use mathlib.Core.Bool.{true}
 use native.Mathlib.Omega.{arith}
-use borrow.Author.Tests.{ltb-true, ltb-false, lt-ltb, le-ltb}
+use borrow.Author.Tests.{ltb-true, ltb-false}
 use lib.Dec.{ltb}
 use lib.ListN.{length, getD, take, drop, length-append, length-drop, take-append-drop}
 use lib.Seq.{length-take-le, drop-append-seam}
@@ -17,7 +17,7 @@ use Rattle.compound.specs.Pass.{endOf, firstTurn, turnsFrom, passBy, fir
 use Rattle.compound.specs.Walk.{packetAt}
 use Rattle.compound.specs.Packets.{bytesIn, packetsFrom, packetsIn, endToEnd}
 use Rattle.compound.specs.Sound.{Whole, Sound, plain, padded, before}
-use Rattle.compound.proofs.Laws.{Turned, PaddingAt, clear, fits, version-at, padding-at, turn-plain, turn-fits, pass-start}
+use Rattle.compound.proofs.Laws.{Turned, PaddingAt, clear, fits, version-at, padding-at, turn-plain, turn-fits, turns-step, turns-end, pass-start}
 use Rattle.compound.proofs.Packets.{Accepted, ended, passed, accepted, packets-more, packets-none, from-start}
 
 -- a whole packet at the front of some bytes, told from those bytes
@@ -49,12 +49,6 @@ module _ (s : List ℕ) (size : lengthOf s ≤ length s) where
   whole-front : versionOf s ≡ 2 → Whole own
   whole-front two = record { size = own-length ∙ sym size-front; two = version-front ∙ two }
 
--- no packets stand past the end
-packets-end : (most : ℕ) (bytes : List ℕ) (at : ℕ) → length bytes ≤ at → packetsFrom most bytes at ≡ []
-unfolding packetsFrom
-packets-end zero bytes at none = refl
-packets-end (suc most) bytes at none = packets-none most bytes at none
-
 -- the packet at a turn that goes on, and the packets behind it
 module _ (most : ℕ) (bytes : List ℕ) (at : ℕ) (t : Turned bytes at (endOf bytes at)) where
   inside : lengthOf (drop at bytes) ≤ length (drop at bytes)
@@ -85,7 +79,7 @@ sound-from (suc most) bytes at more enough passes = go (accepted most bytes at p
         rw (packets-more most bytes at m)
         (by-test (ltb (endOf bytes at) (length bytes))
         (λ further. following most bytes at (t .turned) (ltb-true _ _ further) (again (ltb-true _ _ further) (omega arith) goes) (t .padding))
-        (λ none. ending most bytes at (t .turned) (packets-end most bytes (endOf bytes at) (ltb-false _ _ none)) (t .padding)))
+        (λ none. ending most bytes at (t .turned) (packets-none most bytes (endOf bytes at) (ltb-false _ _ none)) (t .padding)))
 
 -- what is accepted is such packets
 pub passes-sound : (bytes : List ℕ) → firstPass bytes ≡ gave tt → Sound (packetsIn bytes)
@@ -123,15 +117,6 @@ module _ (pre p rest : List ℕ) (w : Whole p) where
   fits-turn none bit count =
       turn-fits all (length pre) (length pre + length p) end-at (omega (arith, sizes, full)) two-at (omega (arith, sizes, none)) (λ e. absurd (omega (arith, bit-at, bit, e)))
       (ap paddingFits seam ∙ own-fits p rest full (w .size) ∙ count)
-
-turns-step : (most : ℕ) (bytes : List ℕ) (at next : ℕ) → at < length bytes → firstTurn bytes at ≡ gave next → turnsFrom firstTurn (suc most) bytes at ≡ turnsFrom firstTurn most bytes next
-unfolding turnsFrom
-turns-step most bytes at next more goes = simp (lt-ltb at (length bytes) more, goes)
-
-turns-end : (most : ℕ) (bytes : List ℕ) (at : ℕ) → length bytes ≤ at → turnsFrom firstTurn most bytes at ≡ gave tt
-unfolding turnsFrom
-turns-end zero bytes at none = refl
-turns-end (suc most) bytes at none = simp (le-ltb at (length bytes) none)
 
 passes-behind : (most : ℕ) (pre : List ℕ) {ps : List (List ℕ)} → Sound ps → turnsFrom firstTurn most (pre ++ endToEnd ps) (length pre) ≡ gave tt
 unfolding endToEnd turnsFrom
