@@ -92,8 +92,8 @@ bog_said bog_check_packet(const uint8_t *data, size_t n, uint64_t least, uint8_t
  * of 4, not 0, at most the packet's length less 4. Expected lengths count from
  * the start of the data. Values: none.
  * Refusals: 1 (empty); then at each packet 1 (4 bytes), 2, 1 (its length), 5.
- * Chromium, Firefox and pion pad some packets by 1 to 3 bytes: 5. The step of
- * the walk and the calls on one packet's bytes take such a packet.
+ * Chromium, Firefox and pion pad some packets by 1 to 3 bytes: 5. The calls on
+ * one packet's bytes take such a packet.
  */
 bog_said bog_compound_parse(const uint8_t *data, size_t n);
 
@@ -105,10 +105,12 @@ bog_said bog_unknown_parse(const uint8_t *data, size_t n);
 
 /*
  * One step of the walk over a compound, from any offset.
- * Values: 0, next offset, start, length of the packet found; or 1, n where the
- * offset is at or past the end and the walk is over. Start with offset 0 and
- * go on with the next offset; a refusal ends the walk.
- * Refusals: 1 (4 bytes), 1 (its length), 2 (this packet's own version).
+ * Values: 0, next offset, start, length, body, padding of the packet found,
+ * where 4 + body + padding is the length; or 1, n where the offset is at or
+ * past the end and the walk is over. Start with offset 0 and go on with the
+ * next offset; a refusal ends the walk. After bog_compound_parse none comes.
+ * Refusals: 1 (4 bytes), 1 (its length), 2 (this packet's own version), 5 (a
+ * padding count that is 0, no multiple of 4, or above its length less 4).
  */
 bog_said bog_walk_step(const uint8_t *data, size_t n, uint64_t offset);
 

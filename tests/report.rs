@@ -62,16 +62,10 @@ fn first_pass(bytes: &[u8], place: Place) -> Result<(), String> {
         }
         let end = end_of(bytes, at)?;
         if bytes[at] & 0x20 != 0 {
-            let wrong = match bytes[end - 1] {
+            let wrong = match misfit(&bytes[at..end]) {
                 _ if end < bytes.len() => "has padding and is not the last".to_string(),
-                0 => "has padding count 0".to_string(),
-                count if count % 4 != 0 => {
-                    format!("has padding count {count}, which is not a multiple of 4")
-                }
-                count if usize::from(count) > end - at - 4 => {
-                    format!("has padding count {count}, which is above its length less 4")
-                }
-                _ => return Ok(()),
+                Some(wrong) => format!("has {wrong}"),
+                None => return Ok(()),
             };
             let alone = block_alone(bytes, at, end, place);
             return Err(format!("refused 5: the packet at {at} {wrong}\n{alone}"));
@@ -79,6 +73,33 @@ fn first_pass(bytes: &[u8], place: Place) -> Result<(), String> {
         at = end;
     }
     Ok(())
+}
+
+/// What is wrong with the padding count of a padded packet.
+fn misfit(packet: &[u8]) -> Option<String> {
+    match packet[packet.len() - 1] {
+        0 => Some("padding count 0".to_string()),
+        count if count % 4 != 0 => Some(format!(
+            "padding count {count}, which is not a multiple of 4"
+        )),
+        count if usize::from(count) > packet.len() - 4 => Some(format!(
+            "padding count {count}, which is above its length less 4"
+        )),
+        _ => None,
+    }
+}
+
+/// The end of the packet that the walk finds at a place, or why it finds none.
+fn found_at(bytes: &[u8], at: usize) -> Result<usize, String> {
+    let end = end_of(bytes, at)?;
+    if bytes[at] >> 6 != 2 {
+        return Err(version(bytes[at]));
+    }
+    let padded = bytes[at] & 0x20 != 0;
+    match misfit(&bytes[at..end]) {
+        Some(wrong) if padded => Err(format!("refused 5: {wrong}\n")),
+        _ => Ok(end),
+    }
 }
 
 /// How the block of a last packet whose padding count is no multiple of four is read, where there is one.
@@ -106,20 +127,20 @@ fn compound(bytes: &[u8], place: Place) -> Report {
         Ok(()) => (0, format!("first pass: accepted, {} bytes\n", bytes.len())),
         Err(refused) => (1, format!("first pass: {refused}")),
     };
-    text += " offset  type  name   count  length  padding  holds\n";
+    text += " offset  type  name   count  length    body  padding  holds\n";
     let mut at = 0;
     while at < bytes.len() {
-        let end = match end_of(bytes, at) {
-            Ok(end) if bytes[at] >> 6 == 2 => end,
-            stopped => {
-                let refused = stopped.err().unwrap_or_else(|| version(bytes[at]));
+        match found_at(bytes, at) {
+            Ok(end) => {
+                text += &packet(&bytes[at..end], at);
+                at = end;
+            }
+            Err(refused) => {
                 text += &format!("walk at {at}: {refused}");
                 status = 1;
                 break;
             }
-        };
-        text += &packet(&bytes[at..end], at);
-        at = end;
+        }
     }
     (status, text)
 }
@@ -137,12 +158,15 @@ fn packet(packet: &[u8], at: usize) -> String {
         207 => "XR",
         _ => "-",
     };
-    let padding = match packet[0] & 0x20 {
-        0 => "-".to_string(),
-        _ => packet[packet.len() - 1].to_string(),
-    };
     let (length, holds) = (packet.len(), holds(packet));
-    format!("{at:>7}{kind:>6}  {name:<5}{count:>7}{length:>8}{padding:>9}  {holds}\n")
+    let (body, padding) = match packet[0] & 0x20 {
+        0 => (length - 4, "-".to_string()),
+        _ => {
+            let count = packet[length - 1];
+            (length - 4 - usize::from(count), count.to_string())
+        }
+    };
+    format!("{at:>7}{kind:>6}  {name:<5}{count:>7}{length:>8}{body:>8}{padding:>9}  {holds}\n")
 }
 
 fn nack(bytes: &[u8]) -> Report {

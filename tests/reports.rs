@@ -49,6 +49,8 @@ fn options_stand_anywhere() {
     }
 }
 
+const HEADING: &str = " offset  type  name   count  length    body  padding  holds";
+
 /// The command's whole report on these bytes.
 fn says(command: &str, bytes: &[u8], status: i32, lines: &[&str]) {
     let words = [command, "-"];
@@ -65,7 +67,7 @@ fn no_bytes() {
         1,
         &[
             "first pass: refused 1: bytes too short: 4 expected, 0 present",
-            " offset  type  name   count  length  padding  holds",
+            HEADING,
         ],
     );
     says(
@@ -90,8 +92,8 @@ fn a_later_version_is_refused_by_both() {
         1,
         &[
             "first pass: refused 2: version 1 where 2 is expected",
-            " offset  type  name   count  length  padding  holds",
-            "      0   203  BYE        0       4        -  -",
+            HEADING,
+            "      0   203  BYE        0       4       0        -  -",
             "walk at 4: refused 2: version 1 where 2 is expected",
         ],
     );
@@ -105,7 +107,7 @@ fn the_first_version_is_refused_by_both() {
         1,
         &[
             "first pass: refused 2: version 3 where 2 is expected",
-            " offset  type  name   count  length  padding  holds",
+            HEADING,
             "walk at 0: refused 2: version 3 where 2 is expected",
         ],
     );
@@ -119,9 +121,8 @@ fn padding_before_the_last_packet_is_refused() {
         1,
         &[
             "first pass: refused 5: the packet at 0 has padding and is not the last",
-            " offset  type  name   count  length  padding  holds",
-            "      0   203  BYE        0       4        0  -",
-            "      4   205  RTPFB      0       4        -  -",
+            HEADING,
+            "walk at 0: refused 5: padding count 0",
         ],
     );
 }
@@ -138,9 +139,8 @@ fn a_padded_block_before_the_last_packet_is_not_read_alone() {
         1,
         &[
             "first pass: refused 5: the packet at 0 has padding and is not the last",
-            " offset  type  name   count  length  padding  holds",
-            "      0   205  RTPFB     15      24        2  twcc",
-            "     24   203  BYE        0       4        -  -",
+            HEADING,
+            "walk at 0: refused 5: padding count 2, which is not a multiple of 4",
         ],
     );
 }
@@ -153,12 +153,13 @@ fn padding_comes_before_a_later_version() {
         1,
         &[
             "first pass: refused 5: the packet at 0 has padding and is not the last",
-            " offset  type  name   count  length  padding  holds",
-            "      0   203  BYE        0       4        0  -",
-            "walk at 4: refused 2: version 1 where 2 is expected",
+            HEADING,
+            "walk at 0: refused 5: padding count 0",
         ],
     );
 }
+
+const GOODBYE: &str = "      0   203  BYE        0       4       0        -  -";
 
 /// A goodbye, then a feedback packet of 20 bytes and format 1 with this last byte.
 fn padded_nack(count: u8) -> Vec<u8> {
@@ -170,59 +171,60 @@ fn padded_nack(count: u8) -> Vec<u8> {
 
 #[test]
 fn padding_counts_that_do_not_fit_are_refused() {
-    let rows = |count: u8| {
-        [
-            " offset  type  name   count  length  padding  holds".to_string(),
-            "      0   203  BYE        0       4        -  -".to_string(),
-            format!("      4   205  RTPFB      1      20{count:>9}  nack"),
-        ]
-    };
-    let verdicts: [(u8, i32, &[&str]); 9] = [
-        (0, 1, &["first pass: refused 5: the packet at 4 has padding count 0"]),
-        (
-            1,
-            1,
-            &[
-                "first pass: refused 5: the packet at 4 has padding count 1, which is not a multiple of 4",
-                "its block alone: bogslipper nack --skip 16 --take 7 FILE",
-            ],
-        ),
-        (4, 0, &["first pass: accepted, 24 bytes"]),
-        (
-            7,
-            1,
-            &[
-                "first pass: refused 5: the packet at 4 has padding count 7, which is not a multiple of 4",
-                "its block alone: bogslipper nack --skip 16 --take 1 FILE",
-            ],
-        ),
-        (8, 0, &["first pass: accepted, 24 bytes"]),
-        (
-            9,
-            1,
-            &["first pass: refused 5: the packet at 4 has padding count 9, which is not a multiple of 4"],
-        ),
-        (16, 0, &["first pass: accepted, 24 bytes"]),
-        (
-            17,
-            1,
-            &["first pass: refused 5: the packet at 4 has padding count 17, which is not a multiple of 4"],
-        ),
-        (
-            20,
-            1,
-            &["first pass: refused 5: the packet at 4 has padding count 20, which is above its length less 4"],
-        ),
+    const NONE: &str = "padding count 0";
+    const ONE: &str = "padding count 1, which is not a multiple of 4";
+    const SEVEN: &str = "padding count 7, which is not a multiple of 4";
+    const NINE: &str = "padding count 9, which is not a multiple of 4";
+    const SEVENTEEN: &str = "padding count 17, which is not a multiple of 4";
+    const TWENTY: &str = "padding count 20, which is above its length less 4";
+    let refusals = [
+        (0, NONE, None),
+        (1, ONE, Some("nack --skip 16 --take 7")),
+        (7, SEVEN, Some("nack --skip 16 --take 1")),
+        (9, NINE, None),
+        (17, SEVENTEEN, None),
+        (20, TWENTY, None),
     ];
-    for (count, status, verdict) in verdicts {
-        let rows = rows(count);
-        let lines: Vec<&str> = verdict
-            .iter()
-            .copied()
-            .chain(rows.iter().map(String::as_str))
-            .collect();
-        says("compound", &padded_nack(count), status, &lines);
+    for (count, wrong, alone) in refusals {
+        let mut lines = vec![format!(
+            "first pass: refused 5: the packet at 4 has {wrong}"
+        )];
+        lines.extend(alone.map(|words| format!("its block alone: bogslipper {words} FILE")));
+        lines.push(HEADING.to_string());
+        lines.push(GOODBYE.to_string());
+        lines.push(format!("walk at 4: refused 5: {wrong}"));
+        let lines: Vec<&str> = lines.iter().map(String::as_str).collect();
+        says("compound", &padded_nack(count), 1, &lines);
     }
+}
+
+#[test]
+fn padding_is_no_part_of_the_body() {
+    for (count, body) in [(4, 12), (8, 8), (12, 4), (16, 0)] {
+        let row = format!("      4   205  RTPFB      1      20{body:>8}{count:>9}  nack");
+        says(
+            "compound",
+            &padded_nack(count),
+            0,
+            &["first pass: accepted, 24 bytes", HEADING, GOODBYE, &row],
+        );
+    }
+}
+
+/// Padding that fits is shown where the packet is not the last, and the walk goes on.
+#[test]
+fn padding_that_fits_before_the_last_packet_is_walked() {
+    says(
+        "compound",
+        &[0xa0, 0xcb, 0, 1, 0, 0, 0, 4, 0x80, 0xcb, 0, 0],
+        1,
+        &[
+            "first pass: refused 5: the packet at 0 has padding and is not the last",
+            HEADING,
+            "      0   203  BYE        0       8       0        4  -",
+            "      8   203  BYE        0       4       0        -  -",
+        ],
+    );
 }
 
 #[test]
@@ -317,8 +319,8 @@ fn the_words_for_a_block_read_it() {
     }
 }
 
-/// Every datagram's packets lie end to end, and every block in it is read to its last entry. The first pass accepts all of them
-/// but those that a sender padded by 1 to 3 bytes.
+/// Every datagram's packets lie end to end, and every block in it is read to its last entry. The first pass and the walk accept all of
+/// them but those that a sender padded by 1 to 3 bytes, whose block the words read that the report gives.
 #[test]
 fn the_traffic() {
     let (mut datagrams, mut blocks, mut refused) = (0, 0, 0);
@@ -331,35 +333,42 @@ fn the_traffic() {
             let words = ["compound", "--hex", "-"];
             let (status, text) = report::on_part("compound", &bytes, HEX);
             with_input(&words, line.as_bytes()).ended(&words, status, &text, "");
-            let table = text.lines().skip_while(|row| !row.starts_with(" offset"));
-            let rows: Vec<&str> = table.skip(1).collect();
-            assert!(!rows.iter().any(|row| row.starts_with("walk")), "{line}");
+            let mut rows: Vec<&str> = text.lines().collect();
             if status == 1 {
-                assert!(text.contains("which is not a multiple of 4"), "{line}");
-                assert!(
-                    text.contains("its block alone: bogslipper twcc --hex"),
-                    "{line}"
-                );
-                assert!(matches!(bytes[bytes.len() - 1], 1..=3), "{line}");
+                let count = bytes[bytes.len() - 1];
+                assert!(matches!(count, 1..=3), "{line}");
+                let wrong = format!("padding count {count}, which is not a multiple of 4");
+                assert!(rows[0].ends_with(&wrong), "{line}");
+                let stopped = rows.pop().unwrap();
+                assert!(stopped.starts_with("walk at "), "{line}");
+                assert!(stopped.ends_with(&wrong), "{line}");
+                let alone = "its block alone: bogslipper twcc --hex --skip ";
+                let place = rows.remove(1).strip_prefix(alone).unwrap();
+                let place = place.strip_suffix(" FILE").unwrap();
+                let (skip, take) = place.split_once(" --take ").unwrap();
+                let (skip, take) = (skip.parse().unwrap(), take.parse().unwrap());
+                block(line, &bytes, "twcc", skip, take);
                 refused += 1;
             }
-            blocks += rows.iter().filter(|row| block(line, &bytes, row)).count();
+            assert_eq!(rows[1], HEADING);
+            for row in &rows[2..] {
+                let cells: Vec<&str> = row.split_whitespace().collect();
+                let number = |place: usize| cells[place].parse().unwrap_or(0);
+                let (offset, length, body, padding) = (number(0), number(4), number(5), number(6));
+                assert_eq!(4 + body + padding, length, "{line}");
+                if cells[7] != "-" {
+                    block(line, &bytes, cells[7], offset + 12, body - 8);
+                    blocks += 1;
+                }
+            }
             datagrams += 1;
         }
     }
-    assert_eq!((datagrams, blocks, refused), (60, 31, 4));
+    assert_eq!((datagrams, blocks, refused), (60, 27, 4));
 }
 
-/// Reads the block that a packet holds, whose row in the compound's report this is; whether it holds one.
-fn block(line: &str, bytes: &[u8], row: &str) -> bool {
-    let cells: Vec<&str> = row.split_whitespace().collect();
-    let number = |place: usize| cells[place].parse().unwrap_or(0);
-    let (offset, length, padding, holds): (usize, usize, usize, &str) =
-        (number(0), number(4), number(5), cells[6]);
-    if holds == "-" {
-        return false;
-    }
-    let (skip, take) = (offset + 12, length - 12 - padding);
+/// Reads a block of a datagram to its last entry.
+fn block(line: &str, bytes: &[u8], holds: &str, skip: usize, take: usize) {
     let (_, text) = report::on(holds, &bytes[skip..skip + take]);
     let (skip, take) = (skip.to_string(), take.to_string());
     let words = [holds, "--hex", "--skip", &skip, "--take", &take, "-"];
@@ -369,5 +378,4 @@ fn block(line: &str, bytes: &[u8], row: &str) -> bool {
         let header: Vec<&str> = text.split([' ', ',']).collect();
         assert_eq!(header[4], header[7], "all statuses are listed: {line}");
     }
-    true
 }

@@ -25,6 +25,14 @@ static bool says(bog_said said, uint64_t number, uint64_t a, uint64_t b, uint64_
     return said.number == number && memcmp(said.values, values, sizeof values) == 0;
 }
 
+/* Whether a step of the walk found this packet. */
+static bool walked(bog_said said, uint64_t next, uint64_t start, uint64_t length, uint64_t body,
+                   uint64_t padding)
+{
+    const uint64_t values[8] = {0, next, start, length, body, padding, 0, 0};
+    return said.number == 0 && memcmp(said.values, values, sizeof values) == 0;
+}
+
 static bool same(const void *left, const void *right, size_t length)
 {
     return memcmp(left, right, length) == 0;
@@ -64,7 +72,9 @@ static void use_compound(void)
     check("compound, wrong count", says(bog_compound_parse(uneven, 8), 5, 0, 0, 0, 0, 0));
     check("packet", says(bog_unknown_parse(two, 4), 0, 0, 0, 0, 0, 0));
     check("packet, long", says(bog_unknown_parse(two, 8), 4, 4, 8, 0, 0, 0));
-    check("step", says(bog_walk_step(two, 8, 0), 0, 0, 4, 0, 4, 0));
+    check("step", walked(bog_walk_step(two, 8, 0), 4, 0, 4, 0, 0));
+    check("step, padded", walked(bog_walk_step(fits, 8, 0), 8, 0, 8, 0, 4));
+    check("step, wrong count", says(bog_walk_step(uneven, 8, 0), 5, 0, 0, 0, 0, 0));
     check("step, over", says(bog_walk_step(two, 8, 9), 0, 1, 8, 0, 0, 0));
     check("step, version", says(bog_walk_step(two, 8, 4), 2, 1, 0, 0, 0, 0));
 }

@@ -9,15 +9,19 @@ use crate::Refusal;
 
 /// A compound that the first pass accepted; an iterator over its packets.
 ///
-/// Each item is a packet as a part of the compound's bytes; laid end to end they are all of them. Items are `Result`s as those of
+/// Each item is a [`Packet`], a part of the compound's bytes; laid end to end they are all of them. Items are `Result`s as those of
 /// rtcp-types are, and none is an `Err`: what would be refused the first pass has refused.
 ///
 /// ```
 /// use bogslipper::{Compound, Refusal};
 ///
 /// let bytes = [0x80, 203, 0, 0, 0x81, 204, 0, 1, 1, 2, 3, 4];
-/// let packets: Result<Vec<&[u8]>, Refusal> = Compound::parse(&bytes)?.collect();
-/// assert_eq!(packets?, [&bytes[..4], &bytes[4..]]);
+/// let mut types = Vec::new();
+/// for packet in Compound::parse(&bytes)? {
+///     let packet = packet?;
+///     types.push((packet.type_(), packet.body()));
+/// }
+/// assert_eq!(types, [(203, &[][..]), (204, &[1, 2, 3, 4])]);
 /// # Ok::<(), Refusal>(())
 /// ```
 #[derive(Clone, Debug)]
@@ -47,11 +51,10 @@ impl<'a> Compound<'a> {
     /// 5, padding bit before the last packet, or a padding count that is 0, no multiple of 4 or above the packet's length less
     /// 4. Expected lengths count from the start of the data.
     ///
-    /// Chromium, Firefox and pion pad some TWCC packets by 1 to 3 bytes, which is refused with 5. [`walk_step`] and the calls on
-    /// one packet's bytes take such a packet:
+    /// Chromium, Firefox and pion pad some TWCC packets by 1 to 3 bytes, which is refused with 5. The calls on one packet's bytes
+    /// take such a packet:
     ///
     /// ```
-    /// use bogslipper::compound::walk_step;
     /// use bogslipper::utils::parser::{check_packet, parse_padding};
     /// use bogslipper::{Compound, Refusal, Twcc};
     ///
@@ -60,10 +63,9 @@ impl<'a> Compound<'a> {
     ///     0, 7, 0, 1, 0, 0, 0, 0, 0x20, 1, 9, 1, // a TWCC block of 11 bytes, and padding that counts 1
     /// ];
     /// assert_eq!(Compound::parse(&sent).unwrap_err(), Refusal::InvalidPadding);
-    /// let (packet, _) = walk_step(&sent, 0)?.expect("a packet");
-    /// check_packet(packet, 12, 205)?;
-    /// let padding = parse_padding(packet)?.unwrap_or(0);
-    /// let block = Twcc::parse(&packet[12..packet.len() - usize::from(padding)])?;
+    /// check_packet(&sent, 12, 205)?;
+    /// let padding = parse_padding(&sent)?.unwrap_or(0);
+    /// let block = Twcc::parse(&sent[12..sent.len() - usize::from(padding)])?;
     /// assert_eq!(block.base_sequence_number(), 7);
     /// # Ok::<(), Refusal>(())
     /// ```
@@ -75,7 +77,7 @@ impl<'a> Compound<'a> {
 }
 
 impl<'a> Iterator for Compound<'a> {
-    type Item = Result<&'a [u8], Refusal>;
+    type Item = Result<Packet<'a>, Refusal>;
 
     fn next(&mut self) -> Option<Self::Item> {
         match walk_step(self.data, self.offset) {
@@ -94,6 +96,114 @@ impl<'a> Iterator for Compound<'a> {
 
 impl FusedIterator for Compound<'_> {}
 
+/// A packet that the walk found, and how its bytes are shared out: the header's four, the body, the padding.
+///
+/// The three always add up to the packet's length.
+///
+/// ```
+/// use bogslipper::{Compound, Refusal};
+///
+/// let bytes = [0xA3, 204, 0, 2, 1, 2, 3, 4, 0, 0, 0, 4];
+/// let packet = Compound::parse(&bytes)?.next().expect("a packet")?;
+/// assert_eq!((packet.type_(), packet.count()), (204, 3));
+/// assert_eq!((packet.body(), packet.padding()), (&[1, 2, 3, 4][..], 4));
+/// assert_eq!(4 + packet.body().len() + packet.padding(), packet.length());
+/// # Ok::<(), Refusal>(())
+/// ```
+#[derive(Clone, Copy, Debug, PartialEq, Eq)]
+pub struct Packet<'a> {
+    data: &'a [u8],
+    start: usize,
+    body: &'a [u8],
+    padding: usize,
+}
+
+impl<'a> Packet<'a> {
+    /// The packet's bytes, header and padding included.
+    ///
+    /// ```
+    /// # use bogslipper::{Compound, Refusal};
+    /// let bytes = [0x80, 203, 0, 0];
+    /// assert_eq!(Compound::parse(&bytes)?.next().expect("a packet")?.data(), bytes);
+    /// # Ok::<(), Refusal>(())
+    /// ```
+    pub fn data(&self) -> &'a [u8] {
+        self.data
+    }
+
+    /// Where the packet starts in the walked bytes.
+    ///
+    /// ```
+    /// # use bogslipper::{Compound, Refusal};
+    /// let bytes = [0x80, 203, 0, 0, 0x80, 203, 0, 0];
+    /// let starts: Result<Vec<usize>, Refusal> =
+    ///     Compound::parse(&bytes)?.map(|packet| Ok(packet?.start())).collect();
+    /// assert_eq!(starts?, [0, 4]);
+    /// # Ok::<(), Refusal>(())
+    /// ```
+    pub fn start(&self) -> usize {
+        self.start
+    }
+
+    /// The packet's length in bytes.
+    ///
+    /// ```
+    /// # use bogslipper::{Compound, Refusal};
+    /// let bytes = [0x80, 203, 0, 1, 9, 9, 9, 9];
+    /// assert_eq!(Compound::parse(&bytes)?.next().expect("a packet")?.length(), 8);
+    /// # Ok::<(), Refusal>(())
+    /// ```
+    pub fn length(&self) -> usize {
+        self.data.len()
+    }
+
+    /// What stands between the header's four bytes and the padding.
+    ///
+    /// ```
+    /// # use bogslipper::{Compound, Refusal};
+    /// let bytes = [0xA0, 203, 0, 2, 1, 2, 3, 4, 0, 0, 0, 4];
+    /// assert_eq!(Compound::parse(&bytes)?.next().expect("a packet")?.body(), [1, 2, 3, 4]);
+    /// # Ok::<(), Refusal>(())
+    /// ```
+    pub fn body(&self) -> &'a [u8] {
+        self.body
+    }
+
+    /// The number of padding bytes, 0 where there are none.
+    ///
+    /// ```
+    /// # use bogslipper::{Compound, Refusal};
+    /// let bytes = [0xA0, 203, 0, 1, 0, 0, 0, 4];
+    /// assert_eq!(Compound::parse(&bytes)?.next().expect("a packet")?.padding(), 4);
+    /// # Ok::<(), Refusal>(())
+    /// ```
+    pub fn padding(&self) -> usize {
+        self.padding
+    }
+
+    /// The packet type.
+    ///
+    /// ```
+    /// # use bogslipper::{Compound, Refusal};
+    /// assert_eq!(Compound::parse(&[0x80, 203, 0, 0])?.next().expect("a packet")?.type_(), 203);
+    /// # Ok::<(), Refusal>(())
+    /// ```
+    pub fn type_(&self) -> u8 {
+        accepted(parser::parse_packet_type(self.data))
+    }
+
+    /// The count; some types call it a format or a subtype.
+    ///
+    /// ```
+    /// # use bogslipper::{Compound, Refusal};
+    /// assert_eq!(Compound::parse(&[0x8F, 205, 0, 0])?.next().expect("a packet")?.count(), 15);
+    /// # Ok::<(), Refusal>(())
+    /// ```
+    pub fn count(&self) -> u8 {
+        accepted(parser::parse_count(self.data))
+    }
+}
+
 /// One step of the walk over bytes that need not have passed [`Compound::parse`]: the packet at an offset and the next
 /// offset, or `None` at or past the end.
 ///
@@ -104,23 +214,33 @@ impl FusedIterator for Compound<'_> {}
 /// use bogslipper::Refusal;
 ///
 /// let bytes = [0x80, 203, 0, 0, 0x40, 203, 0, 0];
-/// assert_eq!(walk_step(&bytes, 0), Ok(Some((&bytes[..4], 4))));
+/// let (packet, next) = walk_step(&bytes, 0)?.expect("a packet");
+/// assert_eq!((packet.data(), next), (&bytes[..4], 4));
 /// assert_eq!(walk_step(&bytes, 4), Err(Refusal::UnsupportedVersion { version: 1 }));
 /// assert_eq!(walk_step(&bytes, 8), Ok(None));
+/// assert_eq!(walk_step(&[0xA0, 203, 0, 1, 0, 0, 0, 2], 0), Err(Refusal::InvalidPadding));
+/// # Ok::<(), Refusal>(())
 /// ```
 ///
 /// # Refusals
 ///
-/// In this order: 1, fewer than four bytes left; 1, its length goes past the end; 2, this packet's own version.
-pub fn walk_step(data: &[u8], offset: usize) -> Result<Option<(&[u8], usize)>, Refusal> {
+/// In this order: 1, fewer than four bytes left; 1, its length goes past the end; 2, this packet's own version; 5, a padding count
+/// that is 0, no multiple of 4 or above the packet's length less 4.
+pub fn walk_step(data: &[u8], offset: usize) -> Result<Option<(Packet<'_>, usize)>, Refusal> {
     // SAFETY: the call reads the slice alone and keeps nothing of it.
     let said = unsafe { ffi::bog_walk_step(data.as_ptr(), data.len(), offset as u64) };
-    let [over, next, start, length, ..] = said.result()?;
+    let [over, next, start, length, body, padding, ..] = said.result()?.map(|value| value as usize);
     if over == 1 {
         return Ok(None);
     }
-    let (start, length) = (start as usize, length as usize);
-    Ok(Some((&data[start..start + length], next as usize)))
+    let data = &data[start..start + length];
+    let packet = Packet {
+        data,
+        start,
+        body: &data[4..4 + body],
+        padding,
+    };
+    Ok(Some((packet, next)))
 }
 
 /// One whole packet of any type.
@@ -227,7 +347,7 @@ impl<'a> Unknown<'a> {
     }
 }
 
-/// A field of a packet that [`Unknown::parse`] accepted: it has its four bytes and is whole, so no field is refused.
+/// A field of a packet that [`Unknown::parse`] accepted or the walk found: it has its four bytes and is whole, so no field is refused.
 fn accepted<T>(field: Result<T, Refusal>) -> T {
     field.expect("an accepted packet is whole")
 }

@@ -5,15 +5,14 @@
 //! the crate rtcp-types where it has one.
 //!
 //! ```
-//! use bogslipper::utils::parser::{parse_count, parse_packet_type};
 //! use bogslipper::{Compound, Refusal};
 //!
 //! fn feedback_formats(received: &[u8]) -> Result<Vec<u8>, Refusal> {
 //!     let mut formats = Vec::new();
 //!     for packet in Compound::parse(received)? {
 //!         let packet = packet?;
-//!         if parse_packet_type(packet)? == 205 {
-//!             formats.push(parse_count(packet)?);
+//!         if packet.type_() == 205 {
+//!             formats.push(packet.count());
 //!         }
 //!     }
 //!     Ok(formats)
@@ -37,7 +36,7 @@ pub mod nack;
 pub mod twcc;
 pub mod utils;
 
-pub use compound::{Compound, Unknown, UnknownBuilder};
+pub use compound::{Compound, Packet, Unknown, UnknownBuilder};
 pub use nack::{Nack, NackBuilder};
 pub use refusal::Refusal;
 pub use twcc::{Twcc, TwccBlocks, TwccBuilder, TwccPacketStatus, TWCC_MAX_REFERENCE_TIME};

@@ -10,12 +10,25 @@ fn refused(hex: &str) -> Refusal {
     Compound::parse(&bytes(hex)).expect_err("a refusal")
 }
 
+/// The bytes of a compound's packets.
+fn packets(data: &[u8]) -> Result<Vec<&[u8]>, Refusal> {
+    Compound::parse(data)?
+        .map(|packet| Ok(packet?.data()))
+        .collect()
+}
+
+/// One step: the packet's bytes and the next offset.
+fn stepped(data: &[u8], offset: usize) -> Result<Option<(&[u8], usize)>, Refusal> {
+    let found = walk_step(data, offset)?;
+    Ok(found.map(|(packet, next)| (packet.data(), next)))
+}
+
 #[test]
 fn fixed_example_second_version() {
     let data = bytes("80 CB 00 00 40 CB 00 00");
     let other = Refusal::UnsupportedVersion { version: 1 };
     assert_eq!(Compound::parse(&data).expect_err("a refusal"), other);
-    assert_eq!(walk_step(&data, 0), Ok(Some((&data[..4], 4))));
+    assert_eq!(stepped(&data, 0), Ok(Some((&data[..4], 4))));
     assert_eq!(walk_step(&data, 4), Err(other));
 }
 
@@ -44,12 +57,21 @@ fn a_padding_count_fits_between_the_header_and_the_end() {
                 *data.last_mut().unwrap() = count;
             }
             let fits = count > 0 && count % 4 == 0 && u16::from(count) <= 4 * u16::from(words);
-            let packets = Compound::parse(&data).and_then(|compound| compound.collect());
             let expected = match fits {
                 true => Ok(vec![&data[..4], &data[4..]]),
                 false => Err(Refusal::InvalidPadding),
             };
-            assert_eq!(packets, expected, "{words} words, count {count}");
+            assert_eq!(packets(&data), expected, "{words} words, count {count}");
+            let padding = usize::from(count);
+            let shared = walk_step(&data, 4).map(|found| {
+                let (packet, next) = found.expect("a packet");
+                (packet.start(), packet.body(), packet.padding(), next)
+            });
+            let expected = match fits {
+                true => Ok((4, &data[8..data.len() - padding], padding, data.len())),
+                false => Err(Refusal::InvalidPadding),
+            };
+            assert_eq!(shared, expected, "{words} words, count {count}");
         }
     }
 }
@@ -98,8 +120,8 @@ fn the_walk_tests_the_length_before_the_version() {
 #[test]
 fn the_walk_takes_any_offset() {
     let data = bytes("80 CB 00 00 80 CC 00 01 80 00 00 00");
-    assert_eq!(walk_step(&data, 4), Ok(Some((&data[4..12], 12))));
-    assert_eq!(walk_step(&data, 8), Ok(Some((&data[8..12], 12))));
+    assert_eq!(stepped(&data, 4), Ok(Some((&data[4..12], 12))));
+    assert_eq!(stepped(&data, 8), Ok(Some((&data[8..12], 12))));
     assert_eq!(
         walk_step(&data, 11),
         Err(Refusal::Truncated {
@@ -115,32 +137,59 @@ fn the_walk_takes_any_offset() {
 #[test]
 fn a_padded_last_packet_passes() {
     let data = bytes("80 CB 00 00 A0 CB 00 01 00 00 00 04");
-    let packets: Result<Vec<_>, _> = Compound::parse(&data).expect("a compound").collect();
-    assert_eq!(packets, Ok(vec![&data[..4], &data[4..]]));
+    assert_eq!(packets(&data), Ok(vec![&data[..4], &data[4..]]));
 }
 
 #[test]
 fn a_compound_may_start_with_any_type() {
     for type_ in 0..=255 {
         let data = [0x80, type_, 0, 0];
-        let packets: Result<Vec<_>, _> = Compound::parse(&data).expect("a compound").collect();
-        assert_eq!(packets, Ok(vec![&data[..]]));
+        assert_eq!(packets(&data), Ok(vec![&data[..]]));
     }
 }
 
 #[test]
 fn the_walk_looks_into_no_packet() {
     for type_ in 200..=207 {
-        for first in [0x80, 0x9F, 0xA0] {
+        for first in [0x80, 0x9F] {
             let data = [0x80, type_, 0, 0, first, type_, 0, 0];
-            assert_eq!(walk_step(&data, 0), Ok(Some((&data[..4], 4))));
-            assert_eq!(walk_step(&data, 4), Ok(Some((&data[4..], 8))));
+            assert_eq!(stepped(&data, 0), Ok(Some((&data[..4], 4))));
+            assert_eq!(stepped(&data, 4), Ok(Some((&data[4..], 8))));
             assert_eq!(
                 Unknown::parse(&data[4..]).map(|packet| packet.type_()),
                 Ok(type_)
             );
         }
     }
+}
+
+#[test]
+fn the_walk_refuses_a_padding_count_after_its_other_tests() {
+    let truncated = |expected, actual| Err(Refusal::Truncated { expected, actual });
+    let version = |version| Err(Refusal::UnsupportedVersion { version });
+    assert_eq!(walk_step(&bytes("A0 CB 00"), 0), truncated(4, 3));
+    assert_eq!(walk_step(&bytes("A0 CB 00 01"), 0), truncated(8, 4));
+    assert_eq!(walk_step(&bytes("60 CB 00 00"), 0), version(1));
+    for padded in [
+        "A0 CB 00 00",
+        "A0 CB 00 01 00 00 00 02",
+        "A0 CB 00 01 00 00 00 08",
+    ] {
+        let mut data = bytes(padded);
+        assert_eq!(walk_step(&data, 0), Err(Refusal::InvalidPadding));
+        data.extend([0x80, 203, 0, 0]);
+        assert_eq!(walk_step(&data, 0), Err(Refusal::InvalidPadding));
+        assert!(Unknown::parse(&data[..data.len() - 4]).is_ok());
+    }
+}
+
+/// The step asks about one packet: a padded one that is not the last is the first pass's to refuse.
+#[test]
+fn the_walk_takes_padding_that_fits_anywhere() {
+    let data = bytes("A0 CB 00 01 00 00 00 04 80 CB 00 00");
+    assert_eq!(packets(&data), Err(Refusal::InvalidPadding));
+    assert_eq!(stepped(&data, 0), Ok(Some((&data[..8], 8))));
+    assert_eq!(stepped(&data, 8), Ok(Some((&data[8..], 12))));
 }
 
 #[test]
@@ -232,7 +281,7 @@ fn written_compounds_are_walked_back() {
     for _ in 0..2_000 {
         let number = 1 + random.below(6);
         let mut data = Vec::new();
-        let mut packets = Vec::new();
+        let mut written = Vec::new();
         for place in 0..number {
             let body: Vec<u8> = (0..4 * random.below(9))
                 .map(|_| random.below(256) as u8)
@@ -254,10 +303,27 @@ fn written_compounds_are_walked_back() {
             assert_eq!((packet.type_(), packet.count()), (type_, count));
             assert_eq!(packet.padding(), (padding > 0).then_some(padding));
             assert_eq!(packet.data()[4..size - usize::from(padding)], body);
+            written.push((
+                data.len(),
+                buf.clone(),
+                type_,
+                count,
+                body,
+                usize::from(padding),
+            ));
             data.extend(&buf);
-            packets.push(buf);
         }
-        let walked: Result<Vec<_>, _> = Compound::parse(&data).expect("a compound").collect();
-        assert_eq!(walked, Ok(packets.iter().map(Vec::as_slice).collect()));
+        let walked = Compound::parse(&data).expect("a compound");
+        let walked: Vec<_> = walked
+            .map(|packet| packet.expect("a packet"))
+            .map(|packet| {
+                let length = 4 + packet.body().len() + packet.padding();
+                assert_eq!(length, packet.length());
+                let (data, body) = (packet.data().to_vec(), packet.body().to_vec());
+                let (type_, count) = (packet.type_(), packet.count());
+                (packet.start(), data, type_, count, body, packet.padding())
+            })
+            .collect();
+        assert_eq!(walked, written);
     }
 }

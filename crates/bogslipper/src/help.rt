@@ -32,7 +32,7 @@ pub fn write(fd: i32) {
     );
     io::write_all(
         fd,
-        b"starts 12 bytes behind the packet's offset and is its length less 12 and less padding.\n\n",
+        b"starts 12 bytes behind the packet's offset and is 8 bytes less than its body.\n\n",
     );
     io::write_all(
         fd,

@@ -4,7 +4,9 @@ use crate::input::ROOM;
 use crate::line;
 use crate::line::LONGEST;
 use crate::words;
+use compound::Alone;
 use compound::Found;
+use compound::Packet;
 use libc::STDOUT_FILENO;
 use refusal::Checked;
 use refusal::Number;
@@ -49,36 +51,58 @@ fn verdict(bytes: &[u8], place: Place) -> bool {
     }
 }
 
-// The first packet with the padding bit: where the first pass refuses padding, this packet's.
+// The first packet that is padded, or that the walk refuses: where the first pass refuses padding, this packet's.
 fn first_padded(bytes: &[u8]) -> usize {
     let mut at = 0;
     while at < bytes.len() {
-        if field(utils::parse_padding_bit(compound::walk_part(bytes, at))) == 1 {
+        let walked = compound::walk_step(bytes, at);
+        let found = walked.found;
+        let next = walked.next;
+        if padded(found) {
             return at;
         }
-        at = compound::walk_next(bytes, at);
+        at = next;
     }
     at
+}
+
+fn padded(found: Found) -> bool {
+    match found {
+        Found::Packet(p) => 0 < p.padding,
+        Found::Over => true,
+        Found::No(_) => true,
+    }
 }
 
 // What is wrong with the padding of a packet, and how its block is read all the same.
 fn misfit(line: [u8; LONGEST], p: usize, bytes: &[u8], place: Place) {
     let mut line = line;
     let at = first_padded(bytes);
+    let rest = from(bytes, at);
     let p = line::labelled(&mut line, p, b"refused 5: the packet at ", at as u64);
-    if compound::walk_next(bytes, at) < bytes.len() {
+    if field(utils::parse_length(rest)) < rest.len() as u64 {
         let p = line::text(&mut line, p, b" has padding and is not the last");
         line::write(line, p, STDOUT_FILENO);
         return;
     }
-    let packet = compound::walk_part(bytes, at);
-    let p = misfit_count(&mut line, p, padding_count(packet));
+    let p = line::text(&mut line, p, b" has ");
+    let p = misfit_count(&mut line, p, rest);
     line::write(line, p, STDOUT_FILENO);
-    read_alone(bytes, packet, place);
+    match compound::record_of(rest) {
+        Alone::Packet(p) => read_alone(bytes, rest, p, place),
+        Alone::No(_) => {}
+    }
 }
 
-fn misfit_count(line: &mut [u8; LONGEST], p: usize, count: u64) -> usize {
-    let p = line::labelled(line, p, b" has padding count ", count);
+// The bytes from an offset on.
+fn from(bytes: &[u8], at: usize) -> &[u8] {
+    &bytes[octets::lesser(at, bytes.len())..]
+}
+
+// What is wrong with the padding count of the packet in front.
+fn misfit_count(line: &mut [u8; LONGEST], p: usize, packet: &[u8]) -> usize {
+    let count = padding_count(packet);
+    let p = line::labelled(line, p, b"padding count ", count);
     if count == 0 {
         return p;
     }
@@ -90,23 +114,18 @@ fn misfit_count(line: &mut [u8; LONGEST], p: usize, count: u64) -> usize {
 
 // How the block in the last packet is read all the same, from the same FILE, where its padding count is wrong only in being no
 // multiple of 4.
-fn read_alone(bytes: &[u8], packet: &[u8], place: Place) {
-    let padding = padding_count(packet) as usize;
-    if padding % 4 == 0 {
+fn read_alone(bytes: &[u8], packet: &[u8], p: Packet, place: Place) {
+    if p.padding % 4 == 0 {
         return;
     }
-    if packet.len() < 12 {
+    if p.body < 8 {
         return;
     }
-    let behind = packet.len() - 12;
-    if behind < padding {
+    if bytes.len() < packet.len() {
         return;
     }
-    if bytes.len() < behind {
-        return;
-    }
-    let skip = octets::lesser(place.start, ROOM) + (bytes.len() - behind);
-    let take = behind - padding;
+    let skip = octets::lesser(place.start, ROOM) + (bytes.len() - packet.len()) + 12;
+    let take = p.body - 8;
     match block_in(packet) {
         Block::Nack => block_alone(b"nack", place.hex, skip, take),
         Block::Twcc => block_alone(b"twcc", place.hex, skip, take),
@@ -132,7 +151,7 @@ fn block_alone(command: &[u8], hex: bool, skip: usize, take: usize) {
 fn heading() {
     io::write_all(
         STDOUT_FILENO,
-        b" offset  type  name   count  length  padding  holds\n",
+        b" offset  type  name   count  length    body  padding  holds\n",
     );
 }
 
@@ -144,10 +163,10 @@ fn walk(bytes: &[u8]) -> bool {
         let found = walked.found;
         let next = walked.next;
         match found {
-            Found::Packet(_) => packet(compound::walk_part(bytes, at), at),
+            Found::Packet(p) => packet(compound::walk_part(bytes, at), p),
             Found::Over => return true,
             Found::No(r) => {
-                stopped(at, r);
+                stopped(bytes, at, r);
                 return false;
             }
         }
@@ -156,25 +175,33 @@ fn walk(bytes: &[u8]) -> bool {
     true
 }
 
-fn stopped(at: usize, r: Refusal) {
+fn stopped(bytes: &[u8], at: usize, r: Refusal) {
     let mut line = [0u8; LONGEST];
     let p = line::labelled(&mut line, 0, b"walk at ", at as u64);
     let p = line::text(&mut line, p, b": ");
-    let p = words::refused(&mut line, p, r);
+    let p = match r {
+        Refusal::InvalidPadding => {
+            let p = line::text(&mut line, p, b"refused 5: ");
+            misfit_count(&mut line, p, from(bytes, at))
+        }
+        _ => words::refused(&mut line, p, r),
+    };
     line::write(line, p, STDOUT_FILENO);
 }
 
-fn packet(packet: &[u8], at: usize) {
+// A packet that the walk found, and its record.
+fn packet(packet: &[u8], found: Packet) {
     let mut line = [0u8; LONGEST];
     let kind = field(utils::parse_packet_type(packet));
     let count = field(utils::parse_count(packet));
-    let p = line::number(&mut line, 0, at as u64, 7);
+    let p = line::number(&mut line, 0, found.start as u64, 7);
     let p = line::number(&mut line, p, kind, 6);
     let p = line::text(&mut line, p, b"  ");
     let p = name(&mut line, p, kind);
     let p = line::number(&mut line, p, count, 7);
-    let p = line::number(&mut line, p, packet.len() as u64, 8);
-    let p = padding(&mut line, p, packet);
+    let p = line::number(&mut line, p, found.length as u64, 8);
+    let p = line::number(&mut line, p, found.body as u64, 8);
+    let p = padding(&mut line, p, found.padding);
     let p = line::text(&mut line, p, b"  ");
     let p = holds(&mut line, p, packet);
     line::write(line, p, STDOUT_FILENO);
@@ -203,13 +230,12 @@ fn name(line: &mut [u8; LONGEST], at: usize, kind: u64) -> usize {
     }
 }
 
-// The padding count, where the padding bit is set.
-fn padding(line: &mut [u8; LONGEST], at: usize, packet: &[u8]) -> usize {
-    match utils::parse_padding(packet) {
-        Padded::Clear => line::right(line, at, b"-", 9),
-        Padded::Byte(count) => line::number(line, at, count as u64, 9),
-        Padded::No(_) => line::right(line, at, b"-", 9),
+// The padding count, where there is padding.
+fn padding(line: &mut [u8; LONGEST], at: usize, count: usize) -> usize {
+    if count == 0 {
+        return line::right(line, at, b"-", 9);
     }
+    line::number(line, at, count as u64, 9)
 }
 
 // The last byte of a packet with the padding bit, else 0.

@@ -15,9 +15,13 @@ use Rattle.refusal.specs.Outcome.{gave, refused, refuse}
 use Rattle.utils.specs.Header.{versionOf, paddingBitOf, lengthOf}
 use Rattle.utils.specs.Check.{lastByteOf, paddingFits}
 use Rattle.compound.specs.Pass.{endOf, firstTurn, turnsFrom, passBy, firstPass}
-use Rattle.compound.specs.Walk.{walkStep, step, over, packet, packetAt, last, nextOf, walkNext}
+use Rattle.compound.specs.Record.{misfits, packetAt, AddsUp}
+use Rattle.compound.specs.Walk.{walkStep, step, over, packet, last, nextOf, walkNext}
+use Rattle.compound.specs.Said.{saidWalked}
 use Rattle.compound.specs.Inner.{WordsBehind, isUsual}
 use Rattle.compound.specs.declared.Packet.{Packet}
+use Rattle.compound.specs.declared.Walked.{Walked}
+use Rattle.compound.proofs.Record.{SharedOut, shared-out}
 
 -- the header's fields of the packet that starts at an offset, read off the whole bytes
 pub version-at : (bytes : List ℕ) (at : ℕ) → versionOf (drop at bytes) ≡ getD bytes at 0 / 64
@@ -78,7 +82,7 @@ module _ (bytes : List ℕ) (at n : ℕ) (ends : n ≡ endOf bytes at) (header :
   turn-misfits two end set misfits = turn-last two end set ∙ rw misfits
 
   walk-header : walkStep bytes at
-      ≡ cond (ltb (length bytes) n) (last bytes (refuse 1 (n ∷ length bytes ∷ []))) (cond (not (eqb (getD bytes at 0 / 64) 2)) (last bytes (refuse 2 (getD bytes at 0 / 64 ∷ []))) (step (gave (packet (packetAt bytes at))) n))
+      ≡ cond (ltb (length bytes) n) (last bytes (refuse 1 (n ∷ length bytes ∷ []))) (cond (not (eqb (getD bytes at 0 / 64) 2)) (last bytes (refuse 2 (getD bytes at 0 / 64 ∷ []))) (cond (misfits (drop at bytes)) (last bytes (refuse 5 [])) (step (gave (packet (packetAt bytes at))) n)))
   unfolding walkStep
   walk-header = let more : at < length bytes = omega arith in simp (lt-leb (length bytes) at more, le-ltb (length bytes) (at + 4) header, ← ends, version-at bytes at)
 
@@ -88,10 +92,14 @@ module _ (bytes : List ℕ) (at n : ℕ) (ends : n ≡ endOf bytes at) (header :
   pub walk-other : n ≤ length bytes → (getD bytes at 0 / 64 ≡ 2 → ⊥) → walkStep bytes at ≡ last bytes (refuse 2 (getD bytes at 0 / 64 ∷ []))
   walk-other whole other = walk-header ∙ simp (le-ltb (length bytes) n whole, ne-eqb (getD bytes at 0 / 64) 2 other)
 
-  pub walk-whole : n ≤ length bytes → getD bytes at 0 / 64 ≡ 2 → walkStep bytes at ≡ step (gave (packet (record { start = at; length = n - at }))) n
-  walk-whole whole two =
-      let own : lengthOf (drop at bytes) ≡ n - at = omega arith in
-      walk-header ∙ simp (le-ltb (length bytes) n whole, eq-eqb (getD bytes at 0 / 64) 2 two) (ap (λ (size : ℕ). step (gave (packet (record { start = at; length = size }))) n) own)
+  walk-two : n ≤ length bytes → getD bytes at 0 / 64 ≡ 2 → walkStep bytes at ≡ cond (misfits (drop at bytes)) (last bytes (refuse 5 [])) (step (gave (packet (packetAt bytes at))) n)
+  walk-two whole two = walk-header ∙ simp (le-ltb (length bytes) n whole, eq-eqb (getD bytes at 0 / 64) 2 two)
+
+  pub walk-misfits : n ≤ length bytes → getD bytes at 0 / 64 ≡ 2 → misfits (drop at bytes) ≡ true → walkStep bytes at ≡ last bytes (refuse 5 [])
+  walk-misfits whole two bad = walk-two whole two ∙ rw bad
+
+  pub walk-fits : n ≤ length bytes → getD bytes at 0 / 64 ≡ 2 → misfits (drop at bytes) ≡ false → walkStep bytes at ≡ step (gave (packet (packetAt bytes at))) n
+  walk-fits whole two good = walk-two whole two ∙ rw good
 
 -- the low byte of a usual packet's length says where it ends
 pub turn-usual : (bytes : List ℕ) (word : ℕ) → 4 * word + 4 ≤ length bytes → isUsual bytes word ≡ true → firstTurn bytes (4 * word) ≡ gave (4 * (word + 1 + getD bytes (4 * word + 3) 0))
@@ -224,33 +232,47 @@ pass-short [] short = refl
 pass-short (b ∷ bytes) short =
     passing-no _ _ (omega arith) (turn-short (b ∷ bytes) 0 short) (passing-start (b ∷ bytes) (omega arith))
 
--- a packet that the walk hands back starts there and ends where the walk goes on; it lies within the bytes and has four bytes at least
+-- a packet that the walk hands back starts there and ends where the walk goes on; it lies within the bytes and has four bytes at least.
+-- Its record says what its bytes say; header, body and padding are its length, and the padding is whole words
 pub record Handed (bytes : List ℕ) (at next : ℕ) (p : Packet) : Type 0 where
   pub starts : p .start ≡ at
   pub size : p .length ≡ next - at
   pub turned : Turned bytes at next
+  pub own : p ≡ packetAt bytes at
+  pub adds-up : AddsUp p
+  pub even : p .padding % 4 ≡ 0
 
 pub walk-packet : (bytes : List ℕ) (at next : ℕ) (p : Packet) → walkStep bytes at ≡ step (gave (packet p)) next → Handed bytes at next p
 unfolding walkStep
 walk-packet bytes at next p steps =
-    go (leb (length bytes) at) (ltb (length bytes) (at + 4)) (ltb (length bytes) (endOf bytes at)) (eqb (versionOf (drop at bytes)) 2) refl refl steps
+    go (leb (length bytes) at) (ltb (length bytes) (at + 4)) (ltb (length bytes) (endOf bytes at)) (eqb (versionOf (drop at bytes)) 2) (misfits (drop at bytes)) refl refl refl steps
   where
     e : ℕ
     e = endOf bytes at
 
-    go : (b₁ b₂ b₃ b₄ : Bool) → ltb (length bytes) e ≡ b₃ → eqb (versionOf (drop at bytes)) 2 ≡ b₄
-        → cond b₁ (last bytes (gave over)) (cond b₂ (last bytes (refuse 1 ((at + 4) ∷ length bytes ∷ []))) (cond b₃ (last bytes (refuse 1 (e ∷ length bytes ∷ [])))
-        (cond (not b₄) (last bytes (refuse 2 (versionOf (drop at bytes) ∷ []))) (step (gave (packet (packetAt bytes at))) e)))) ≡ step (gave (packet p)) next → Handed bytes at next p
-    go true b₂ b₃ b₄ past own s = never (cc)
-    go false true b₃ b₄ past own s = never (cc)
-    go false false true b₄ past own s = never (cc)
-    go false false false false past own s = never (cc)
-    go false false false true past own s =
-        let z : next ≡ e = cc in
-        let size : p .length ≡ lengthOf (drop at bytes) = cc in
-        record { starts = cc; size = omega arith; turned = record { moves = omega arith; within = omega (arith, ltb-false (length bytes) e past); ends = z; two = eqb-true (versionOf (drop at bytes)) 2 own } }
+    found : ltb (length bytes) e ≡ false → eqb (versionOf (drop at bytes)) 2 ≡ true → SharedOut (drop at bytes) → p ≡ packetAt bytes at → next ≡ e → Handed bytes at next p
+    found past version out own z =
+        rw own
+        record {
+          starts = refl;
+          size = omega arith;
+          turned = record { moves = omega arith; within = omega (arith, ltb-false (length bytes) e past); ends = z; two = eqb-true (versionOf (drop at bytes)) 2 version };
+          own = refl;
+          adds-up = omega (arith, out .inside);
+          even = out .even
+        }
 
--- every step before the end moves on, and none past it
+    go : (b₁ b₂ b₃ b₄ b₅ : Bool) → ltb (length bytes) e ≡ b₃ → eqb (versionOf (drop at bytes)) 2 ≡ b₄ → misfits (drop at bytes) ≡ b₅
+        → cond b₁ (last bytes (gave over)) (cond b₂ (last bytes (refuse 1 ((at + 4) ∷ length bytes ∷ []))) (cond b₃ (last bytes (refuse 1 (e ∷ length bytes ∷ [])))
+        (cond (not b₄) (last bytes (refuse 2 (versionOf (drop at bytes) ∷ []))) (cond b₅ (last bytes (refuse 5 [])) (step (gave (packet (packetAt bytes at))) e))))) ≡ step (gave (packet p)) next → Handed bytes at next p
+    go true b₂ b₃ b₄ b₅ past own bad s = never (cc)
+    go false true b₃ b₄ b₅ past own bad s = never (cc)
+    go false false true b₄ b₅ past own bad s = never (cc)
+    go false false false false b₅ past own bad s = never (cc)
+    go false false false true true past own bad s = never (cc)
+    go false false false true false past own bad s = found past own (shared-out (drop at bytes) bad) (cc) (cc)
+
+-- every step before the end moves on, and none past it; so does the answer to it
 pub record Moves (bytes : List ℕ) (at next : ℕ) : Type 0 where
   pub on : at < next
   pub within : next ≤ length bytes
@@ -258,15 +280,20 @@ pub record Moves (bytes : List ℕ) (at next : ℕ) : Type 0 where
 pub walk-moves : (bytes : List ℕ) (at : ℕ) → at < length bytes → Moves bytes at (walkNext bytes at)
 unfolding walkNext walkStep
 walk-moves bytes at more =
-    go (leb (length bytes) at) (ltb (length bytes) (at + 4)) (ltb (length bytes) (endOf bytes at)) (not (eqb (versionOf (drop at bytes)) 2)) refl
+    go (leb (length bytes) at) (ltb (length bytes) (at + 4)) (ltb (length bytes) (endOf bytes at)) (not (eqb (versionOf (drop at bytes)) 2)) (misfits (drop at bytes)) refl
   where
-    go : (b₁ b₂ b₃ b₄ : Bool) → ltb (length bytes) (endOf bytes at) ≡ b₃
+    go : (b₁ b₂ b₃ b₄ b₅ : Bool) → ltb (length bytes) (endOf bytes at) ≡ b₃
         → Moves bytes at
         (nextOf
         (cond b₁ (last bytes (gave over)) (cond b₂ (last bytes (refuse 1 ((at + 4) ∷ length bytes ∷ []))) (cond b₃ (last bytes (refuse 1 (endOf bytes at ∷ length bytes ∷ [])))
-        (cond b₄ (last bytes (refuse 2 (versionOf (drop at bytes) ∷ []))) (step (gave (packet (packetAt bytes at))) (endOf bytes at)))))))
-    go true b₂ b₃ b₄ past = record { on = more; within = omega arith }
-    go false true b₃ b₄ past = record { on = more; within = omega arith }
-    go false false true b₄ past = record { on = more; within = omega arith }
-    go false false false true past = record { on = more; within = omega arith }
-    go false false false false past = record { on = omega arith; within = omega (arith, ltb-false (length bytes) (endOf bytes at) past) }
+        (cond b₄ (last bytes (refuse 2 (versionOf (drop at bytes) ∷ []))) (cond b₅ (last bytes (refuse 5 [])) (step (gave (packet (packetAt bytes at))) (endOf bytes at))))))))
+    go true b₂ b₃ b₄ b₅ past = record { on = more; within = omega arith }
+    go false true b₃ b₄ b₅ past = record { on = more; within = omega arith }
+    go false false true b₄ b₅ past = record { on = more; within = omega arith }
+    go false false false true b₅ past = record { on = more; within = omega arith }
+    go false false false false true past = record { on = more; within = omega arith }
+    go false false false false false past = record { on = omega arith; within = omega (arith, ltb-false (length bytes) (endOf bytes at) past) }
+
+pub answer-moves : (bytes : List ℕ) (at : ℕ) (w : Walked) → saidWalked w ≡ walkStep bytes at → at < length bytes → Moves bytes at (w .next)
+unfolding walkNext
+answer-moves bytes at w said more = rw (ap nextOf said) (walk-moves bytes at more)

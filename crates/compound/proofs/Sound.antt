@@ -14,7 +14,7 @@ use Rattle.utils.specs.Header.{versionOf, paddingBitOf, lengthOf}
 use Rattle.utils.specs.Check.{paddingFits}
 use Rattle.utils.proofs.Laws.{own-version, own-bit, own-size, own-fits}
 use Rattle.compound.specs.Pass.{endOf, firstTurn, turnsFrom, passBy, firstPass}
-use Rattle.compound.specs.Walk.{packetAt}
+use Rattle.compound.specs.Record.{packetAt}
 use Rattle.compound.specs.Packets.{bytesIn, packetsFrom, packetsIn, endToEnd}
 use Rattle.compound.specs.Sound.{Whole, Sound, plain, padded, before}
 use Rattle.compound.proofs.Laws.{Turned, PaddingAt, clear, fits, version-at, padding-at, turn-plain, turn-fits, turns-step, turns-end, pass-start}
@@ -25,22 +25,22 @@ module _ (s : List ℕ) (size : lengthOf s ≤ length s) where
   abbrev own : List ℕ
   own = take (lengthOf s) s
 
-  own-length : length own ≡ lengthOf s
+  pub own-length : length own ≡ lengthOf s
   own-length = length-take-le (lengthOf s) s size
 
-  behind : own ++ drop (lengthOf s) s ≡ s
+  pub behind : own ++ drop (lengthOf s) s ≡ s
   behind = take-append-drop (lengthOf s) s
 
-  header : 4 ≤ length own
+  pub header : 4 ≤ length own
   header = omega (arith, own-length)
 
   version-front : versionOf own ≡ versionOf s
   version-front = sym (own-version own (drop (lengthOf s) s) header) ∙ ap versionOf behind
 
-  bit-front : paddingBitOf own ≡ paddingBitOf s
+  pub bit-front : paddingBitOf own ≡ paddingBitOf s
   bit-front = sym (own-bit own (drop (lengthOf s) s) header) ∙ ap paddingBitOf behind
 
-  size-front : lengthOf own ≡ lengthOf s
+  pub size-front : lengthOf own ≡ lengthOf s
   size-front = sym (own-size own (drop (lengthOf s) s) header) ∙ ap lengthOf behind
 
   fits-front : paddingFits own ≡ paddingFits s

@@ -9,13 +9,29 @@ use Rattle.refusal.specs.declared.Checked.{Checked}
 use Rattle.lent.proofs.Unique.{SamePart, part-unique}
 use Rattle.compound.specs.Pass.{firstPass}
 use Rattle.compound.specs.Walk.{walkStep, walkNext, HandsBack}
-use Rattle.compound.specs.Said.{saidFound, saidWalked}
+use Rattle.compound.specs.Record.{checkRecord, ownRecord}
+use Rattle.compound.specs.Said.{saidAlone, saidFound, saidWalked}
+use Rattle.compound.specs.declared.Packet.{Packet}
+use Rattle.compound.specs.declared.Alone.{Alone}
+use Rattle.compound.specs.declared.Alone.the-variants as alone
 use Rattle.compound.specs.declared.Found.{Found}
 use Rattle.compound.specs.declared.Found.the-variants as found
 use Rattle.compound.specs.declared.Walked.{Walked}
 
 pub parse-unique : (bytes : List ℕ) (a b : Checked) → saidChecked a ≡ firstPass bytes → saidChecked b ≡ firstPass bytes → a ≡ b
 parse-unique bytes a b p q = checked-unique a b (p ∙ sym q)
+
+pub check-record-unique : (packet : List ℕ) (p : Packet) (a b : Checked) → saidChecked a ≡ checkRecord packet p → saidChecked b ≡ checkRecord packet p → a ≡ b
+check-record-unique packet p a b q r = checked-unique a b (q ∙ sym r)
+
+alone-unique : (a b : Alone) → saidAlone a ≡ saidAlone b → a ≡ b
+alone-unique (alone.Packet p) (alone.Packet q) same = ap alone.Packet (cc)
+alone-unique (alone.Packet p) (alone.No r) same = cc
+alone-unique (alone.No r) (alone.Packet p) same = cc
+alone-unique (alone.No r) (alone.No q) same = ap alone.No (no-unique r q same)
+
+pub record-of-unique : (packet : List ℕ) (a b : Alone) → saidAlone a ≡ ownRecord packet → saidAlone b ≡ ownRecord packet → a ≡ b
+record-of-unique packet a b p q = alone-unique a b (p ∙ sym q)
 
 found-unique : (a b : Found) → saidFound a ≡ saidFound b → a ≡ b
 found-unique found.Over found.Over same = refl

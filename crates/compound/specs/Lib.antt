@@ -1,5 +1,6 @@
 pub mod Pass
 pub mod Rust
+pub mod Record
 pub mod Walk
 pub mod Said
 pub mod Packets

@@ -1,12 +1,14 @@
 -- The packets of a compound, and those that the walk hands back.
 use Prim.Native.Nat.{ℕ, zero, suc}
 use mathlib.Core.List.{List, [], _∷_, _++_}
+use mathlib.Core.Path.{_≡_}
 use mathlib.Core.Bool.{cond}
 use lib.Dec.{ltb}
 use lib.ListN.{length, take, drop}
 use Rattle.refusal.specs.Outcome.{gave, refused}
 use Rattle.compound.specs.Pass.{endOf}
-use Rattle.compound.specs.Walk.{Step, step, over, packet, packetAt, walkStep}
+use Rattle.compound.specs.Record.{packetAt}
+use Rattle.compound.specs.Walk.{Step, step, over, packet, walkStep}
 use Rattle.compound.specs.declared.Packet.{Packet}
 
 -- a packet's own bytes
@@ -34,6 +36,11 @@ packetsIn bytes = packetsFrom (length bytes) bytes 0
 
 abbrev pub walkedIn : List ℕ → List (List ℕ)
 walkedIn bytes = walkedFrom (length bytes) bytes 0
+
+-- the offsets that the walk comes to: the start, and where each step goes on that hands back a packet
+pub data Reached (bytes : List ℕ) : ℕ → Type 0 where
+  start : Reached bytes 0
+  on : {at next : ℕ} {p : Packet} → Reached bytes at → walkStep bytes at ≡ step (gave (packet p)) next → Reached bytes next
 
 -- packets laid end to end
 unfoldable pub endToEnd : List (List ℕ) → List ℕ

@@ -7,8 +7,9 @@ use lib.Dec.{eqb, ltb, leb}
 use denote.Ref.{RefT, now}
 use Rattle.refusal.specs.Outcome.{Outcome, gave, refused, refuse}
 use Rattle.lent.specs.Part.{PartOf}
-use Rattle.utils.specs.Header.{versionOf, lengthOf}
+use Rattle.utils.specs.Header.{versionOf}
 use Rattle.compound.specs.Pass.{endOf}
+use Rattle.compound.specs.Record.{packetAt, misfits}
 use Rattle.compound.specs.declared.Packet.{Packet}
 
 -- what a step meets
@@ -24,17 +25,14 @@ pub data Step : Type 0 where
 abbrev pub last : List ℕ → Outcome Met → Step
 last bytes met = step met (length bytes)
 
--- the packet that starts at an offset
-abbrev pub packetAt : List ℕ → ℕ → Packet
-packetAt bytes at = record { start = at; length = lengthOf (drop at bytes) }
-
 unfoldable pub walkStep : List ℕ → ℕ → Step
 walkStep bytes at =
     cond (leb (length bytes) at) (last bytes (gave over))
     (cond (ltb (length bytes) (at + 4)) (last bytes (refuse 1 ((at + 4) ∷ length bytes ∷ [])))
     (cond (ltb (length bytes) (endOf bytes at)) (last bytes (refuse 1 (endOf bytes at ∷ length bytes ∷ [])))
     (cond (not (eqb (versionOf (drop at bytes)) 2)) (last bytes (refuse 2 (versionOf (drop at bytes) ∷ [])))
-    (step (gave (packet (packetAt bytes at))) (endOf bytes at)))))
+    (cond (misfits (drop at bytes)) (last bytes (refuse 5 []))
+    (step (gave (packet (packetAt bytes at))) (endOf bytes at))))))
 
 abbrev pub nextOf : Step → ℕ
 nextOf (step met next) = next
@@ -43,10 +41,13 @@ unfoldable pub walkNext : List ℕ → ℕ → ℕ
 walkNext bytes at = nextOf (walkStep bytes at)
 
 -- the packet that is handed back; where there is none, an empty part of the bytes
+abbrev nowhere : Packet
+nowhere = record { start = 0; length = 0; body = 0; padding = 0 }
+
 abbrev pub packetOf : Step → Packet
 packetOf (step (gave (packet p)) next) = p
-packetOf (step (gave over) next) = record { start = 0; length = 0 }
-packetOf (step (refused number values) next) = record { start = 0; length = 0 }
+packetOf (step (gave over) next) = nowhere
+packetOf (step (refused number values) next) = nowhere
 
 unfoldable pub walkPart : List ℕ → ℕ → Packet
 walkPart bytes at = packetOf (walkStep bytes at)

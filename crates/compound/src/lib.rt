@@ -7,8 +7,9 @@ ghost use lib.ListN.{length, drop};
 ghost use Rattle.refusal.specs.Said.{saidChecked};
 ghost use Rattle.utils.specs.Check.{paddingFits};
 ghost use Rattle.compound.specs.Pass.{endOf, firstTurn, firstPass};
+ghost use Rattle.compound.specs.Record.{paddingOf, misfits, packetAt, checkRecord, ownRecord};
 ghost use Rattle.compound.specs.Walk.{walkStep, walkNext, HandsBack};
-ghost use Rattle.compound.specs.Said.{saidWalked};
+ghost use Rattle.compound.specs.Said.{saidWalked, saidAlone};
 ghost use Rattle.compound.specs.Inner.{WordsBehind, isUsual, saidTurn};
 
 // One turn of the first pass: where the next packet starts, in words of four bytes.
@@ -17,10 +18,19 @@ enum Turn {
     No(Refusal),
 }
 
-// A packet within the bytes: where it starts, and how long it is.
+// A packet within the bytes: where it starts, how long it is, and how its bytes are shared out: the header's four, the body,
+// the padding. In every record that is made here 4 + body + padding is the length.
 pub struct Packet {
     pub start: usize,
     pub length: usize,
+    pub body: usize,
+    pub padding: usize,
+}
+
+// The record of one packet alone.
+pub enum Alone {
+    Packet(Packet),
+    No(Refusal),
 }
 
 // What the walk finds at an offset.
@@ -150,6 +160,82 @@ pub fn parse(bytes: &[u8]) -> Checked
     Checked::Fine
 }
 
+// Whether the packet between two offsets is padded by a count that does not fit.
+fn misfits(bytes: &[u8], at: usize, next: usize) -> bool
+    requires { ⌜ (next ≡ endOf (now bytes) at) × (next ≤ length (now bytes)) ⌝ }
+    ensures { λ r. ⌜ r ≡ misfits (drop at (now (bytes .entry))) ⌝ }
+{
+    if bytes[at] / 32 % 2 == 0 {
+        return false;
+    }
+    !padding_fits(bytes, at, next)
+}
+
+// The padding of the packet between two offsets. Here alone it is worked out.
+fn padding_at(bytes: &[u8], at: usize, next: usize) -> usize
+    requires { ⌜ (next ≡ endOf (now bytes) at) × (next ≤ length (now bytes)) ⌝ }
+    ensures { λ r. ⌜ r ≡ paddingOf (drop at (now (bytes .entry))) ⌝ }
+{
+    if bytes[at] / 32 % 2 == 0 {
+        return 0;
+    }
+    octets::wide(bytes[next - 1])
+}
+
+// The record of the packet between two offsets. Padding that leaves no header leaves no body, and the record does not add up.
+fn record_at(bytes: &[u8], at: usize, next: usize) -> Packet
+    requires { ⌜ (next ≡ endOf (now bytes) at) × (next ≤ length (now bytes)) ⌝ }
+    ensures { λ r. ⌜ r ≡ packetAt (now (bytes .entry)) at ⌝ }
+{
+    let length = next - at;
+    let padding = padding_at(bytes, at, next);
+    let behind = length - 4;
+    Packet {
+        start: at,
+        length,
+        body: behind - octets::lesser(behind, padding),
+        padding,
+    }
+}
+
+// Whether a record, whoever made it, is of these bytes: readers ask this behind `check_packet`, before they trust body and padding.
+pub fn check_record(packet: &[u8], p: Packet) -> Checked
+    ensures { λ r. ⌜ saidChecked r ≡ checkRecord (now (packet .entry)) p ⌝ }
+{
+    let present = packet.len();
+    if p.length != present {
+        return Checked::No(Refusal::InvalidPadding);
+    }
+    if present < 4 {
+        return Checked::No(Refusal::InvalidPadding);
+    }
+    let behind = present - 4;
+    if behind < p.body {
+        return Checked::No(Refusal::InvalidPadding);
+    }
+    if behind - p.body != p.padding {
+        return Checked::No(Refusal::InvalidPadding);
+    }
+    Checked::Fine
+}
+
+// The record of bytes that are one packet, for readers of bytes that skipped the walk: its padding count may be any that leaves
+// the header.
+pub fn record_of(packet: &[u8]) -> Alone
+    ensures { λ r. ⌜ saidAlone r ≡ ownRecord (now (packet .entry)) ⌝ }
+{
+    match utils::check_length(packet) {
+        Checked::No(r) => Alone::No(r),
+        Checked::Fine => {
+            let p = record_at(packet, 0, packet.len());
+            match check_record(packet, p) {
+                Checked::No(r) => Alone::No(r),
+                Checked::Fine => Alone::Packet(p),
+            }
+        }
+    }
+}
+
 // The step of the walk, from any offset.
 pub fn walk_step(bytes: &[u8], at: usize) -> Walked
     ensures { λ r. ⌜ saidWalked r ≡ walkStep (now (bytes .entry)) at ⌝ }
@@ -188,11 +274,14 @@ pub fn walk_step(bytes: &[u8], at: usize) -> Walked
             next: end,
         };
     }
+    if misfits(bytes, at, next) {
+        return Walked {
+            found: Found::No(Refusal::InvalidPadding),
+            next: end,
+        };
+    }
     Walked {
-        found: Found::Packet(Packet {
-            start: at,
-            length: next - at,
-        }),
+        found: Found::Packet(record_at(bytes, at, next)),
         next,
     }
 }

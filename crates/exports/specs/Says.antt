@@ -51,9 +51,9 @@ paddingValues (byte b) = pos 1 ∷ pos b ∷ []
 unfoldable pub padding : Outcome Padding → Outcome (List ℤ)
 padding = answered paddingValues
 
--- 0, next offset, start, length of a packet; 1, the end where the walk is over
+-- 0, next offset, start, length, body, padding of a packet; 1, the end where the walk is over
 abbrev pub walkValues : Met → ℕ → List ℤ
-walkValues (packet p) next = pos 0 ∷ pos next ∷ pos (p .start) ∷ pos (p .length) ∷ []
+walkValues (packet p) next = pos 0 ∷ pos next ∷ pos (p .start) ∷ pos (p .length) ∷ pos (p .body) ∷ pos (p .padding) ∷ []
 walkValues over next = pos 1 ∷ pos next ∷ []
 
 unfoldable pub walk : Step → Outcome (List ℤ)

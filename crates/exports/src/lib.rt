@@ -35,25 +35,25 @@ pub struct Said {
 
 // Answers by how many values they have.
 
-fn five(a: u64, b: u64, c: u64, d: u64, e: u64) -> Said
-    ensures { λ s. ⌜ s ≡ says 0 (pos a ∷ pos b ∷ pos c ∷ pos d ∷ pos e ∷ []) ⌝ }
+fn six(a: u64, b: u64, c: u64, d: u64, e: u64, f: u64) -> Said
+    ensures { λ s. ⌜ s ≡ says 0 (pos a ∷ pos b ∷ pos c ∷ pos d ∷ pos e ∷ pos f ∷ []) ⌝ }
 {
     Said {
         number: 0,
-        values: [a, b, c, d, e, 0, 0, 0],
+        values: [a, b, c, d, e, f, 0, 0],
     }
 }
 
-fn four(a: u64, b: u64, c: u64, d: u64) -> Said
-    ensures { λ s. ⌜ s ≡ says 0 (pos a ∷ pos b ∷ pos c ∷ pos d ∷ []) ⌝ }
+fn five(a: u64, b: u64, c: u64, d: u64, e: u64) -> Said
+    ensures { λ s. ⌜ s ≡ says 0 (pos a ∷ pos b ∷ pos c ∷ pos d ∷ pos e ∷ []) ⌝ }
 {
-    five(a, b, c, d, 0)
+    six(a, b, c, d, e, 0)
 }
 
 fn two(a: u64, b: u64) -> Said
     ensures { λ s. ⌜ s ≡ says 0 (pos a ∷ pos b ∷ []) ⌝ }
 {
-    four(a, b, 0, 0)
+    five(a, b, 0, 0, 0)
 }
 
 fn one(a: u64) -> Said
@@ -174,7 +174,14 @@ pub extern "C" fn bog_walk_step(bytes: &[u8], offset: u64) -> Said
     let next = walked.next;
     let found = walked.found;
     match found {
-        Found::Packet(p) => four(0, next as u64, p.start as u64, p.length as u64),
+        Found::Packet(p) => six(
+            0,
+            next as u64,
+            p.start as u64,
+            p.length as u64,
+            p.body as u64,
+            p.padding as u64,
+        ),
         Found::Over => two(1, next as u64),
         Found::No(r) => refused(r),
     }

@@ -4,8 +4,9 @@ use mathlib.Core.Path.{refl}
 use mathlib.Core.List.{[], _∷_}
 use native.Mathlib.Omega.{arith}
 use Rattle.lent.specs.Bytes.{zeroBytes}
-use Rattle.utils.specs.Check.{paddingFits}
+use Rattle.utils.specs.Check.{ownLength, checkLength, paddingFits}
 use Rattle.compound.specs.Pass.{firstTurn, turnsFrom, passBy, firstPass}
+use Rattle.compound.specs.Record.{paddingOf, misfits, checkRecord, ownRecord}
 use Rattle.compound.specs.Walk.{walkStep}
 use Rattle.nack_store.specs.Sets.{Rising, none, more}
 use Rattle.nack.specs.Entries.{masked, allNamed, entriesIn, readNack, grow, entriesOf, allBytes}
@@ -25,5 +26,5 @@ rises : (second : ℕ) → 0 < second → second < 65536 → Rising 65536 0 (0 �
 rises second above below = more {low = 0} {n = 0} (omega arith) (omega arith) (more {low = 1} {n = second} (omega arith) below none)
 
 pub examples : Settled
-unfolding settled table paddingFits firstTurn turnsFrom passBy firstPass walkStep readNack entriesIn allNamed masked allBytes entriesOf grow listed blockSymbols blockDeltas entries symbols afterChunks standsFor unpack wordOf bytesOf signed16 blockBytes header body takenOf chunksOf takenIn plan morePlan next fitted shorten widthBy takenBy chunkFor choice onesOf runOf front symbolOf widthOf bits16 deltaBytes deltas pack chunkWord chunkBytes zeroBytes
+unfolding settled table ownLength checkLength paddingFits firstTurn turnsFrom passBy firstPass paddingOf misfits checkRecord ownRecord walkStep readNack entriesIn allNamed masked allBytes entriesOf grow listed blockSymbols blockDeltas entries symbols afterChunks standsFor unpack wordOf bytesOf signed16 blockBytes header body takenOf chunksOf takenIn plan morePlan next fitted shorten widthBy takenBy chunkFor choice onesOf runOf front symbolOf widthOf bits16 deltaBytes deltas pack chunkWord chunkBytes zeroBytes
 examples = rw (rising-bytes (0 ∷ 16 ∷ []) (rises 16 (omega arith) (omega arith)), rising-bytes (0 ∷ 17 ∷ []) (rises 17 (omega arith) (omega arith))) refl

@@ -7,7 +7,9 @@ use lib.IntN.{ℤ, pos}
 use lib.ListN.{replicate}
 use Rattle.refusal.specs.Outcome.{Outcome, gave, refuse}
 use Rattle.compound.specs.Pass.{firstPass}
+use Rattle.compound.specs.Record.{checkRecord, ownRecord}
 use Rattle.compound.specs.Walk.{Step, step, packet, walkStep}
+use Rattle.compound.specs.declared.Packet.{Packet}
 use Rattle.nack_store.specs.Bits.{addedAll, emptyStore}
 use Rattle.nack.specs.Entries.{nackBytes, readNack}
 use Rattle.twcc.specs.Words.{notReceived, truncated, reserved}
@@ -28,6 +30,10 @@ pub data Row : Type 0 where
   pass : List ℕ → Outcome Unit → Row
   -- bytes and an offset; what the walk's step meets, and where it goes on
   walk : List ℕ → ℕ → Step → Row
+  -- one packet's bytes; its record
+  alone : List ℕ → Outcome Packet → Row
+  -- one packet's bytes and a record; whether it is of them
+  sums : List ℕ → Packet → Outcome Unit → Row
 
 -- a row with its question kept and its answer as the definitions give it
 unfoldable pub settled : Row → Row
@@ -37,6 +43,8 @@ settled (writeNack numbers bytes) = writeNack numbers (nackBytes (addedAll empty
 settled (readNumbers bytes numbers) = readNumbers bytes (readNack bytes)
 settled (pass bytes verdict) = pass bytes (firstPass bytes)
 settled (walk bytes at met) = walk bytes at (walkStep bytes at)
+settled (alone bytes found) = alone bytes (ownRecord bytes)
+settled (sums bytes p verdict) = sums bytes p (checkRecord bytes p)
 
 unfoldable pub table : List Row
 table =
@@ -63,13 +71,21 @@ table =
     ∷ writeNack (0 ∷ 17 ∷ []) (0x00 ∷ 0x00 ∷ 0x00 ∷ 0x00 ∷ 0x00 ∷ 0x11 ∷ 0x00 ∷ 0x00 ∷ [])
     ∷ readNumbers (0xFF ∷ 0xFF ∷ 0x00 ∷ 0x01 ∷ []) (65535 ∷ 0 ∷ [])
     ∷ pass (0x80 ∷ 0xCB ∷ 0x00 ∷ 0x00 ∷ 0x40 ∷ 0xCB ∷ 0x00 ∷ 0x00 ∷ []) (refuse 2 (1 ∷ []))
-    ∷ walk (0x80 ∷ 0xCB ∷ 0x00 ∷ 0x00 ∷ 0x40 ∷ 0xCB ∷ 0x00 ∷ 0x00 ∷ []) 0 (step (gave (packet (record { start = 0; length = 4 }))) 4)
+    ∷ walk (0x80 ∷ 0xCB ∷ 0x00 ∷ 0x00 ∷ 0x40 ∷ 0xCB ∷ 0x00 ∷ 0x00 ∷ []) 0 (step (gave (packet (record { start = 0; length = 4; body = 0; padding = 0 }))) 4)
     ∷ walk (0x80 ∷ 0xCB ∷ 0x00 ∷ 0x00 ∷ 0x40 ∷ 0xCB ∷ 0x00 ∷ 0x00 ∷ []) 4 (step (refuse 2 (1 ∷ [])) 8)
     ∷ pass (0xA0 ∷ 0xCB ∷ 0x00 ∷ 0x00 ∷ 0x40 ∷ 0xCB ∷ 0x00 ∷ 0x00 ∷ []) (refuse 5 [])
     ∷ pass (0xA0 ∷ 0xCB ∷ 0x00 ∷ 0x00 ∷ []) (refuse 5 [])
     ∷ pass (0xA0 ∷ 0xCB ∷ 0x00 ∷ 0x01 ∷ 0x00 ∷ 0x00 ∷ 0x00 ∷ 0x02 ∷ []) (refuse 5 [])
     ∷ pass (0xA0 ∷ 0xCB ∷ 0x00 ∷ 0x01 ∷ 0x00 ∷ 0x00 ∷ 0x00 ∷ 0x04 ∷ []) (gave tt)
     ∷ pass (0xA0 ∷ 0xCB ∷ 0x00 ∷ 0x01 ∷ 0x00 ∷ 0x00 ∷ 0x00 ∷ 0x08 ∷ []) (refuse 5 [])
+    ∷ walk (0xA0 ∷ 0xCB ∷ 0x00 ∷ 0x01 ∷ 0x00 ∷ 0x00 ∷ 0x00 ∷ 0x02 ∷ []) 0 (step (refuse 5 []) 8)
+    ∷ walk (0xA0 ∷ 0xCB ∷ 0x00 ∷ 0x01 ∷ 0x00 ∷ 0x00 ∷ 0x00 ∷ 0x04 ∷ []) 0 (step (gave (packet (record { start = 0; length = 8; body = 0; padding = 4 }))) 8)
+    ∷ walk (0xA0 ∷ 0xCB ∷ 0x00 ∷ 0x01 ∷ 0x00 ∷ 0x00 ∷ 0x00 ∷ 0x08 ∷ []) 0 (step (refuse 5 []) 8)
+    ∷ walk (0x60 ∷ 0xCB ∷ 0x00 ∷ 0x01 ∷ 0x00 ∷ 0x00 ∷ 0x00 ∷ 0x02 ∷ []) 0 (step (refuse 2 (1 ∷ [])) 8)
+    ∷ alone (0xA0 ∷ 0xCB ∷ 0x00 ∷ 0x01 ∷ 0x00 ∷ 0x00 ∷ 0x00 ∷ 0x02 ∷ []) (gave (record { start = 0; length = 8; body = 2; padding = 2 }))
+    ∷ alone (0xA0 ∷ 0xCB ∷ 0x00 ∷ 0x01 ∷ 0x00 ∷ 0x00 ∷ 0x00 ∷ 0x05 ∷ []) (refuse 5 [])
+    ∷ sums (0x80 ∷ 0xCB ∷ 0x00 ∷ 0x00 ∷ []) (record { start = 0; length = 4; body = 0; padding = 0 }) (gave tt)
+    ∷ sums (0x80 ∷ 0xCB ∷ 0x00 ∷ 0x00 ∷ []) (record { start = 0; length = 4; body = 0; padding = 1 }) (refuse 5 [])
     ∷ []
 
 -- the claim

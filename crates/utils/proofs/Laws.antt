@@ -2,19 +2,38 @@
 use Prim.Native.Nat.{ℕ, _+_, _-_, _%_, _≤_, _<_}
 use mathlib.Core.Path.{_≡_, refl}
 use mathlib.Core.Bool.{Bool, true, false, cond, not}
-use mathlib.Core.List.{List, _++_}
+use mathlib.Core.List.{List, [], _∷_, _++_}
 use native.Mathlib.Omega.{arith}
-use borrow.Author.Tests.{eqb-true, eqb-false, leb-true, eq-eqb, ne-eqb}
-use lib.Dec.{eqb, leb}
+use borrow.Author.Tests.{ltb-false, le-ltb, eqb-true, eqb-false, leb-true, eq-eqb, ne-eqb}
+use lib.Dec.{eqb, ltb, leb}
 use lib.ListN.{length, take, drop, length-drop, List·getD-append}
 use lib.Seq.{take-all}
 use Rattle.octets.proofs.Logic.{by-test, never}
+use Rattle.refusal.specs.Outcome.{Outcome, gave, refuse}
 use Rattle.utils.specs.Header.{shortest, versionOf, paddingBitOf, lengthOf}
-use Rattle.utils.specs.Check.{lastByteOf, paddingFits}
+use Rattle.utils.specs.Check.{lastByteOf, ownLength, checkLength, paddingFits}
 
 -- a part that goes to the end
 pub rest-whole : (s : List ℕ) (at : ℕ) → take (length s - at) (drop at s) ≡ drop at s
 rest-whole s at = take-all (length s - at) (drop at s) (omega (arith, length-drop at s))
+
+-- bytes are one packet exactly where their length is right
+pub one-packet : (packet : List ℕ) → length packet ≡ lengthOf packet → checkLength packet ≡ gave tt
+unfolding checkLength ownLength
+one-packet packet whole = simp (le-ltb (length packet) shortest (omega arith), le-ltb (length packet) (lengthOf packet) (omega arith), le-ltb (lengthOf packet) (length packet) (omega arith))
+
+pub right-length : (packet : List ℕ) → checkLength packet ≡ gave tt → length packet ≡ lengthOf packet
+unfolding checkLength ownLength
+right-length packet right = go (ltb (length packet) shortest) (ltb (length packet) (lengthOf packet)) (ltb (lengthOf packet) (length packet)) refl refl right
+  where
+    tests : Bool → Bool → Bool → Outcome Unit
+    tests b₁ b₂ b₃ = cond b₁ (refuse 1 (shortest ∷ length packet ∷ [])) (cond b₂ (refuse 1 (lengthOf packet ∷ length packet ∷ [])) (cond b₃ (refuse 4 (lengthOf packet ∷ length packet ∷ [])) (gave tt)))
+
+    go : (b₁ b₂ b₃ : Bool) → ltb (length packet) (lengthOf packet) ≡ b₂ → ltb (lengthOf packet) (length packet) ≡ b₃ → tests b₁ b₂ b₃ ≡ gave tt → length packet ≡ lengthOf packet
+    go true b₂ b₃ short long r = never (cc)
+    go false true b₃ short long r = never (cc)
+    go false false true short long r = never (cc)
+    go false false false short long r = omega (arith, ltb-false (length packet) (lengthOf packet) short, ltb-false (lengthOf packet) (length packet) long)
 
 -- the padding count of a whole packet, test by test
 module _ (packet : List ℕ) where
@@ -68,6 +87,9 @@ module _ (packet behind : List ℕ) (header : shortest ≤ length packet) where
 
   pub own-size : lengthOf (packet ++ behind) ≡ lengthOf packet
   own-size = let high = List·getD-append packet behind 0 2 (omega arith) in let low = List·getD-append packet behind 0 3 (omega arith) in omega (arith, high, low)
+
+  pub own-last : length packet ≡ lengthOf packet → lastByteOf (packet ++ behind) ≡ lastByteOf packet
+  own-last whole = rw own-size (List·getD-append packet behind 0 (lengthOf packet - 1) (omega arith))
 
   pub own-fits : length packet ≡ lengthOf packet → paddingFits (packet ++ behind) ≡ paddingFits packet
   unfolding paddingFits

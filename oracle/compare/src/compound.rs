@@ -24,6 +24,9 @@ pub fn compare(effort: &Effort) -> Vec<Book> {
     pass_fixed_compounds(&mut readers);
     pass_every_padding(&mut readers);
     pass_pairs(&mut readers);
+    step_fixed_packets(&mut readers);
+    step_every_padding(&mut readers);
+    walk_traffic(&mut readers);
     let Readers {
         compound,
         rule,
@@ -80,24 +83,36 @@ impl Readers {
         let mut over = false;
         for packet in compound {
             let expected = match packet {
-                Ok(Packet::Unknown(packet)) => {
-                    let length = packet.data().len() as u64;
-                    Said::answer(&[0, offset + length, offset, length])
-                }
-                Err(error) if !of_known_type(data, offset) => refused_reading(error),
+                Ok(Packet::Unknown(packet)) => expected_record(packet.data(), offset),
+                Err(error) if !of_known_type(data, offset) => refused_reading(error).into(),
                 _ => return,
             };
-            over = expected.number != 0;
+            over = expected.said.number == 2;
             self.walk_on(data, offset, expected);
-            offset = expected.values[1];
+            offset += length_at(data, offset);
         }
         if !over {
-            self.walk_on(data, offset, Said::answer(&[1, data.len() as u64]));
+            let end = data.len() as u64;
+            self.walk_on(data, offset, Said::answer(&[1, end]));
+        }
+    }
+
+    /// The walk from 0 over any types, to its end.
+    fn walk_through(&mut self, data: &[u8]) {
+        let mut offset = 0;
+        loop {
+            let expected = expected_step(data, offset);
+            let said = expected.said;
+            self.walk_on(data, offset, expected);
+            if said.number != 0 || said.values[0] != 0 {
+                return;
+            }
+            offset = said.values[1];
         }
     }
 
     /// One step of the walk from 0.
-    fn walk_on(&mut self, data: &[u8], offset: u64, expected: Said) {
+    fn walk_on(&mut self, data: &[u8], offset: u64, expected: impl Into<Expected>) {
         let (said, lent) = read_only(&mut self.random, data, |data| ours::walk_step(data, offset));
         let numbers = [offset.into()];
         let case = Case::reading(data).numbers(&numbers);
@@ -108,7 +123,11 @@ impl Readers {
     fn step(&mut self, data: &[u8], offset: u64) {
         let (said, lent) = read_only(&mut self.random, data, |data| ours::walk_step(data, offset));
         let expected = expected_step(data, offset);
-        let kind = ["packet", "over"][expected.values[0].min(1) as usize];
+        let kind = match expected.said.values {
+            [0, _, _, _, _, 0, ..] => "packet",
+            [0, ..] => "padded",
+            _ => "over",
+        };
         let numbers = [offset.into()];
         let case = Case::reading(data).numbers(&numbers).kind(kind);
         self.step.enter(expected, said, &[&lent.kept()], case);
@@ -162,16 +181,18 @@ fn first_pass(data: &[u8], rule: Rule) -> Said {
         if end < next {
             return Said::refusal(1, &[next as u64, end as u64]);
         }
-        if first & 0x20 != 0 {
-            let count = usize::from(data[next - 1]);
-            let fits = count != 0 && count % 4 == 0 && count <= length - 4;
-            if next < end || rule == Rule::Ours && !fits {
-                return Said::refusal(5, &[]);
-            }
+        let padded = first & 0x20 != 0;
+        if padded && (next < end || rule == Rule::Ours && !fits(data[next - 1], length)) {
+            return Said::refusal(5, &[]);
         }
         at = next;
     }
     Said::answer(&[])
+}
+
+/// Whether the padding count of a padded packet of this length fits.
+fn fits(count: u8, length: usize) -> bool {
+    count != 0 && count % 4 == 0 && usize::from(count) <= length - 4
 }
 
 /// Ours by docs/RULES.md, beside the crate's verdict: whatever the crate refuses has to be refused.
@@ -193,24 +214,43 @@ fn expected_unknown(data: &[u8]) -> Said {
     }
 }
 
+/// The length that the packet at an offset says.
+fn length_at(data: &[u8], offset: u64) -> u64 {
+    let at = offset as usize;
+    4 * (u64::from(u16::from_be_bytes([data[at + 2], data[at + 3]])) + 1)
+}
+
 /// The walk step of docs/RULES.md, line by line; the packet itself is read as the crate's `Unknown`.
-fn expected_step(data: &[u8], offset: u64) -> Said {
+fn expected_step(data: &[u8], offset: u64) -> Expected {
     let end = data.len() as u64;
     if offset >= end {
-        return Said::answer(&[1, end]);
+        return Said::answer(&[1, end]).into();
     }
-    let rest = &data[offset as usize..];
-    let &[_, _, high, low, ..] = rest else {
-        return Said::refusal(1, &[offset + 4, end]);
+    if end - offset < 4 {
+        return Said::refusal(1, &[offset + 4, end]).into();
+    }
+    let next = offset + length_at(data, offset);
+    if end < next {
+        return Said::refusal(1, &[next, end]).into();
+    }
+    let packet = &data[offset as usize..next as usize];
+    match Unknown::parse(packet) {
+        Ok(_) => expected_record(packet, offset),
+        Err(error) => refused_reading(error).into(),
+    }
+}
+
+/// The record of a whole packet of version 2, which the crate's `Unknown` accepts whatever its padding count is.
+fn expected_record(packet: &[u8], start: u64) -> Expected {
+    let length = packet.len() as u64;
+    let last = packet[packet.len() - 1];
+    let padding = match packet[0] & 0x20 {
+        0 => 0,
+        _ if fits(last, packet.len()) => last.into(),
+        _ => return Expected::differing("padding count refused", Said::refusal(5, &[])),
     };
-    let length = 4 * (u64::from(u16::from_be_bytes([high, low])) + 1);
-    if end - offset < length {
-        return Said::refusal(1, &[offset + length, end]);
-    }
-    match Unknown::parse(&rest[..length as usize]) {
-        Ok(_) => Said::answer(&[0, offset + length, offset, length]),
-        Err(error) => refused_reading(error),
-    }
+    let body = length - 4 - padding;
+    Said::answer(&[0, start + length, start, length, body, padding]).into()
 }
 
 /// The fixed examples, with their own words as the expectation.
@@ -317,6 +357,75 @@ fn pass_pairs(readers: &mut Readers) {
                 data[end - 1] = last;
                 readers.pass(&data);
             }
+        }
+    }
+}
+
+/// Packets and their padding, with the words of docs/RULES.md as the expectation.
+fn step_fixed_packets(readers: &mut Readers) {
+    let table: [(&[u8], Said); 6] = [
+        (&[0x80, 0xCB, 0, 0], Said::answer(&[0, 4, 0, 4, 0, 0])),
+        (&[0xA0, 0xCB, 0, 0], Said::refusal(5, &[])),
+        (&[0xA0, 0xCB, 0, 1, 0, 0, 0, 2], Said::refusal(5, &[])),
+        (
+            &[0xA0, 0xCB, 0, 1, 0, 0, 0, 4],
+            Said::answer(&[0, 8, 0, 8, 0, 4]),
+        ),
+        (&[0xA0, 0xCB, 0, 1, 0, 0, 0, 8], Said::refusal(5, &[])),
+        (&[0x60, 0xCB, 0, 1, 0, 0, 0, 2], Said::refusal(2, &[1])),
+    ];
+    for (data, expected) in table {
+        let (said, lent) = read_only(&mut readers.random, data, |data| ours::walk_step(data, 0));
+        let numbers = [0];
+        let case = Case::reading(data).numbers(&numbers);
+        readers
+            .step
+            .table(|book| book.enter(expected, said, &[&lent.kept()], case));
+        readers.step_from_everywhere(data);
+    }
+}
+
+/// A step at a packet with every first and every last byte, at the lengths 4 to 24, alone and before another.
+fn step_every_padding(readers: &mut Readers) {
+    for words in 0..6 {
+        let mut data = vec![];
+        push_packet(&mut data, &mut readers.random, 0, 250, words);
+        let end = data.len();
+        push_packet(&mut data, &mut readers.random, 0x80, 250, 0);
+        for first in 0..=255 {
+            for last in 0..=255 {
+                data[0] = first;
+                data[end - 1] = last;
+                readers.step(&data[..end], 0);
+                readers.step(&data, 0);
+            }
+        }
+    }
+}
+
+/// The datagrams of real senders walked from 0 to the end: whole, cut at every byte, with each bit of each header turned, and with
+/// every last byte on a last packet that has the padding bit.
+fn walk_traffic(readers: &mut Readers) {
+    for data in traffic::datagrams() {
+        let places = traffic::places(&data);
+        for length in 0..=data.len() {
+            readers.walk_through(&data[..length]);
+        }
+        for &place in &places {
+            for bit in 0..32 {
+                let mut damaged = data.clone();
+                damaged[place + bit / 8] ^= 0x80 >> (bit % 8);
+                readers.walk_through(&damaged);
+            }
+        }
+        let mut padded = data;
+        let (Some(&place), Some(end)) = (places.last(), padded.len().checked_sub(1)) else {
+            continue;
+        };
+        padded[place] |= 0x20;
+        for last in 0..=255 {
+            padded[end] = last;
+            readers.walk_through(&padded);
         }
     }
 }

@@ -1,8 +1,8 @@
 -- Each answer comes where its test comes.
-use mathlib.Core.Path.{sym}
+use mathlib.Core.Path.{sym, _∙_}
 use native.Mathlib.Omega.{arith}
 use denote.Ref.{now}
-use Rattle.compound.proofs.Laws.{walk-over, walk-short, walk-past, walk-other, walk-whole}
+use Rattle.compound.proofs.Laws.{walk-over, walk-short, walk-past, walk-other, walk-misfits, walk-fits}
 use borrow.Author.Needs.{needs}
 use Rattle.compound.proofs.walk_step.Statement.{statement}
 use Rattle.compound.proofs.walk_step.Tie as tie
@@ -47,13 +47,24 @@ returns-4 c =
     let a = c .before .before .before .before .before .before .before .args in
     sym (walk-other (now (a .bytes)) _ _ (c .before .before .before .words-behind .ensures .ends) (omega arith) (omega arith) (c .if4 .taken))
 
-sub-t9 : tie.Need-sub-t9
-sub-t9 c = search needs
+misfits-requires : tie.Need-misfits-requires
+misfits-requires c κs = (c .before .before .before .words-behind .ensures .ends, omega arith)
 
 returns-5 : tie.Need-returns-5
 returns-5 c =
-    let a = c .before .before .before .before .before .before .before .args in
-    sym (walk-whole (now (a .bytes)) _ _ (c .before .before .before .words-behind .ensures .ends) (omega arith) (omega arith) (c .if4 .left))
+    let a = c .before .before .before .before .before .before .before .before .before .args in
+    sym (walk-misfits (now (a .bytes)) _ _ (c .before .before .before .before .before .words-behind .ensures .ends) (omega arith) (omega arith) (c .before .before .if4 .left)
+    (sym (c .before .misfits .ensures) ∙ c .if5 .taken))
+
+record-at-requires : tie.Need-record-at-requires
+record-at-requires c κs = (c .before .before .before .before .before .words-behind .ensures .ends, omega arith)
+
+returns-6 : tie.Need-returns-6
+returns-6 c =
+    let a = c .before .before .before .before .before .before .before .before .before .before .args in
+    rw (c .record-at .ensures)
+    (sym (walk-fits (now (a .bytes)) _ _ (c .before .before .before .before .before .before .words-behind .ensures .ends) (omega arith) (omega arith) (c .before .before .before .if4 .left)
+    (sym (c .before .before .misfits .ensures) ∙ c .before .if5 .left)))
 
 pub walk-step-spec : {M : Type 1} → statement M
 walk-step-spec =
@@ -71,5 +82,7 @@ walk-step-spec =
     returns-3
     shared-slice-read-version
     returns-4
-    sub-t9
-    returns-5)
+    misfits-requires
+    returns-5
+    record-at-requires
+    returns-6)

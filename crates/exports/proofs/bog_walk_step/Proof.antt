@@ -20,8 +20,8 @@ walk-step-requires c κs = search needs
 enum-known-found : tie.Need-enum-known-found
 enum-known-found c = search needs
 
-four-requires : tie.Need-four-requires
-four-requires c κs = search needs
+six-requires : tie.Need-six-requires
+six-requires c κs = search needs
 
 enum-told : tie.Need-enum-told
 enum-told c = search needs
@@ -37,7 +37,7 @@ refused-requires c κs = search needs
 
 returns : tie.Need-returns
 unfolding saidOf walk
-returns c = rw (as-found (c .before .before .before .before) (c .before .before .found .given .1)) (c .four .ensures)
+returns c = rw (as-found (c .before .before .before .before) (c .before .before .found .given .1)) (c .six .ensures)
 
 returns-2 : tie.Need-returns-2
 unfolding saidOf walk
@@ -53,7 +53,7 @@ bog-walk-step-spec =
     (tie.spec
     walk-step-requires
     enum-known-found
-    four-requires
+    six-requires
     enum-told
     two-requires
     enum-known-found-2

@@ -3,7 +3,7 @@ use Prim.Native.Nat.{_≤_, _-_}
 use native.Mathlib.Omega.{arith}
 use lib.ListN.{length}
 use borrow.Author.Needs.{needs}
-use Rattle.compound.proofs.Laws.{Moves, walk-moves}
+use Rattle.compound.proofs.Laws.{Moves, answer-moves}
 use Rattle.bogslipper.proofs.packets.first_padded.Statement.{statement}
 use Rattle.bogslipper.proofs.packets.first_padded.Tie as tie
 
@@ -16,23 +16,17 @@ abbrev μ-loop : tie.MeasureT-loop
 loop-holds : tie.Need-loop-holds Inv-loop μ-loop
 loop-holds c = search needs
 
-walk-part-requires : tie.Need-walk-part-requires Inv-loop μ-loop
-walk-part-requires c κs = search needs
+walk-step-requires : tie.Need-walk-step-requires Inv-loop μ-loop
+walk-step-requires c κs = search needs
 
-parse-padding-bit-requires : tie.Need-parse-padding-bit-requires Inv-loop μ-loop
-parse-padding-bit-requires c κs = search needs
-
-field-requires : tie.Need-field-requires Inv-loop μ-loop
-field-requires c κs = search needs
+padded-requires : tie.Need-padded-requires Inv-loop μ-loop
+padded-requires c κs = search needs
 
 returns : tie.Need-returns Inv-loop μ-loop
 returns c = search needs
 
-walk-next-requires : tie.Need-walk-next-requires Inv-loop μ-loop
-walk-next-requires c κs = search needs
-
-moved : (c : tie.After-walk-next Inv-loop μ-loop) → Moves (c .before .before .before .before .before .before .before .before .args .bytes .now) (c .before .before .before .before .before .before .loop .at) (c .walk-next .result)
-moved c = rw (c .walk-next .ensures) (walk-moves _ _ (omega arith))
+moved : (c : tie.Else1 Inv-loop μ-loop) → Moves (c .before .before .before .before .before .before .args .bytes .now) (c .before .before .before .before .loop .at) (c .before .before .walk-step .result .next)
+moved c = let w = c .before .before .walk-step in answer-moves _ _ (w .result) (w .ensures) (omega arith)
 
 loop-less : tie.Need-loop-less Inv-loop μ-loop
 loop-less c = let m = moved c in omega arith
@@ -50,11 +44,9 @@ first-padded-spec =
     Inv-loop
     μ-loop
     loop-holds
-    walk-part-requires
-    parse-padding-bit-requires
-    field-requires
+    walk-step-requires
+    padded-requires
     returns
-    walk-next-requires
     loop-less
     loop-again
     returns-2)

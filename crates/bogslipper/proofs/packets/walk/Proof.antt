@@ -1,13 +1,9 @@
--- Each packet found lies behind the one before.
+-- Each step before the end moves on.
 use Prim.Native.Nat.{_≤_, _-_}
-use mathlib.Core.Path.{sym, ap, _∙_}
 use native.Mathlib.Omega.{arith}
 use lib.ListN.{length}
 use borrow.Author.Needs.{needs}
-use Rattle.compound.specs.Walk.{step}
-use Rattle.compound.specs.Said.{saidFound}
-use Rattle.compound.specs.declared.Found.{Found}
-use Rattle.compound.proofs.Laws.{Turned, walk-packet}
+use Rattle.compound.proofs.Laws.{Moves, answer-moves}
 use Rattle.bogslipper.proofs.packets.walk.Statement.{statement}
 use Rattle.bogslipper.proofs.packets.walk.Tie as tie
 
@@ -23,8 +19,8 @@ loop-holds c = search needs
 walk-step-requires : tie.Need-walk-step-requires Inv-loop μ-loop
 walk-step-requires c κs = search needs
 
-enum-told : tie.Need-enum-told Inv-loop μ-loop
-enum-told c = search needs
+enum-known-found : tie.Need-enum-known-found Inv-loop μ-loop
+enum-known-found c = search needs
 
 walk-part-requires : tie.Need-walk-part-requires Inv-loop μ-loop
 walk-part-requires c κs = search needs
@@ -32,14 +28,14 @@ walk-part-requires c κs = search needs
 packet-requires : tie.Need-packet-requires Inv-loop μ-loop
 packet-requires c κs = search needs
 
-enum-told-2 : tie.Need-enum-told-2 Inv-loop μ-loop
-enum-told-2 c = search needs
+enum-told : tie.Need-enum-told Inv-loop μ-loop
+enum-told c = search needs
 
 returns : tie.Need-returns Inv-loop μ-loop
 returns c = search needs
 
-enum-known-found : tie.Need-enum-known-found Inv-loop μ-loop
-enum-known-found c = search needs
+enum-known-found-2 : tie.Need-enum-known-found-2 Inv-loop μ-loop
+enum-known-found-2 c = search needs
 
 stopped-requires : tie.Need-stopped-requires Inv-loop μ-loop
 stopped-requires c κs = search needs
@@ -47,11 +43,8 @@ stopped-requires c κs = search needs
 returns-2 : tie.Need-returns-2 Inv-loop μ-loop
 returns-2 c = search needs
 
-moved : (c : tie.After-packet Inv-loop μ-loop) → Turned (c .before .before .before .before .before .before .before .before .args .bytes .now) (c .before .before .before .before .before .before .loop .at) (c .before .before .before .before .walk-step .result .next)
-moved c =
-    walk-packet _ _ _ _
-    (sym (c .before .before .before .before .walk-step .ensures)
-    ∙ ap (λ (f : Found). step (saidFound f) (c .before .before .before .before .walk-step .result .next)) (c .before .before .enum-told .given .1)) .turned
+moved : (c : tie.After-packet Inv-loop μ-loop) → Moves (c .before .before .before .before .before .before .before .before .before .args .bytes .now) (c .before .before .before .before .before .before .before .loop .at) (c .before .before .before .before .before .walk-step .result .next)
+moved c = let w = c .before .before .before .before .before .walk-step in answer-moves _ _ (w .result) (w .ensures) (omega arith)
 
 loop-less : tie.Need-loop-less Inv-loop μ-loop
 loop-less c = let m = moved c in omega arith
@@ -70,12 +63,12 @@ walk-spec =
     μ-loop
     loop-holds
     walk-step-requires
-    enum-told
+    enum-known-found
     walk-part-requires
     packet-requires
-    enum-told-2
+    enum-told
     returns
-    enum-known-found
+    enum-known-found-2
     stopped-requires
     returns-2
     loop-less
