@@ -259,7 +259,7 @@ walk-packet bytes at next p steps =
           turned = record { moves = omega arith; within = omega (arith, ltb-false (length bytes) e past); ends = z; two = eqb-true (versionOf (drop at bytes)) 2 version };
           own = refl;
           adds-up = omega (arith, out .inside);
-          even = out .even
+          even = out .even;
         }
 
     go : (b₁ b₂ b₃ b₄ b₅ : Bool) → ltb (length bytes) e ≡ b₃ → eqb (versionOf (drop at bytes)) 2 ≡ b₄ → misfits (drop at bytes) ≡ b₅

@@ -1,14 +1,14 @@
 -- Readers take the same from the walk's record and from a packet's own bytes.
-use Prim.Native.Nat.{ℕ, _+_, _-_, _≤_}
-use mathlib.Core.List.{List, _++_}
+use Prim.Native.Nat.{ℕ, _≤_}
+use mathlib.Core.List.{List}
 use mathlib.Core.Path.{_≡_, refl, sym, ap, _∙_}
 use native.Mathlib.Omega.{arith}
 use lib.ListN.{length, take, drop, length-drop}
 use Rattle.refusal.specs.Outcome.{gave}
-use Rattle.utils.specs.Header.{shortest, lengthOf}
+use Rattle.utils.specs.Header.{lengthOf}
 use Rattle.utils.specs.Check.{lastByteOf, checkLength}
 use Rattle.utils.proofs.Laws.{one-packet, own-last}
-use Rattle.compound.specs.Record.{paddingOf, packetAt, AddsUp, checkRecord, ownRecord}
+use Rattle.compound.specs.Record.{paddingOf, packetAt, checkRecord, ownRecord}
 use Rattle.compound.specs.Walk.{walkStep, step, packet}
 use Rattle.compound.specs.Packets.{bytesIn}
 use Rattle.compound.specs.declared.Packet.{Packet}

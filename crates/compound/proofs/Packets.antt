@@ -1,6 +1,6 @@
 -- The pass and the walk speak of the same packets: on bytes that the first pass accepted, the walk hands back exactly the
 -- packets, and laid end to end they are the bytes.
-use Prim.Native.Nat.{ℕ, zero, suc, _+_, _-_, _≤_, _<_}
+use Prim.Native.Nat.{ℕ, zero, suc, _-_, _≤_, _<_}
 use mathlib.Core.List.{List, [], _∷_}
 use mathlib.Core.Path.{_≡_, refl, sym, ap, _∙_}
 use mathlib.Core.Bool.{false, not}

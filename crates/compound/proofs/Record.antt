@@ -6,7 +6,7 @@ use mathlib.Core.Bool.{Bool, true, false, cond, not}
 use native.Mathlib.Omega.{arith}
 use borrow.Author.Tests.{eqb-true, eqb-false, eq-eqb, ne-eqb}
 use lib.Dec.{eqb}
-use lib.ListN.{length, drop}
+use lib.ListN.{length}
 use Rattle.octets.proofs.Logic.{by-test, never}
 use Rattle.refusal.specs.Outcome.{Outcome, gave, refused, refuse, andThen}
 use Rattle.utils.specs.Header.{shortest, paddingBitOf, lengthOf}

@@ -171,7 +171,7 @@ fn misfits(bytes: &[u8], at: usize, next: usize) -> bool
     !padding_fits(bytes, at, next)
 }
 
-// The padding of the packet between two offsets. Here alone it is worked out.
+// How many bytes of padding the packet between two offsets has: the one place where this is worked out.
 fn padding_at(bytes: &[u8], at: usize, next: usize) -> usize
     requires { ⌜ (next ≡ endOf (now bytes) at) × (next ≤ length (now bytes)) ⌝ }
     ensures { λ r. ⌜ r ≡ paddingOf (drop at (now (bytes .entry))) ⌝ }
@@ -198,7 +198,7 @@ fn record_at(bytes: &[u8], at: usize, next: usize) -> Packet
     }
 }
 
-// Whether a record, whoever made it, is of these bytes: readers ask this behind `check_packet`, before they trust body and padding.
+// Whether a record, whoever made it, is of these bytes. Readers ask this behind `check_packet`, before they trust body and padding.
 pub fn check_record(packet: &[u8], p: Packet) -> Checked
     ensures { λ r. ⌜ saidChecked r ≡ checkRecord (now (packet .entry)) p ⌝ }
 {
@@ -219,8 +219,8 @@ pub fn check_record(packet: &[u8], p: Packet) -> Checked
     Checked::Fine
 }
 
-// The record of bytes that are one packet, for readers of bytes that skipped the walk: its padding count may be any that leaves
-// the header.
+// The record of bytes that are one packet, for readers of bytes that skipped the walk: here a padding count need be no multiple of
+// four, and a count of 0 is `check_packet`'s to refuse.
 pub fn record_of(packet: &[u8]) -> Alone
     ensures { λ r. ⌜ saidAlone r ≡ ownRecord (now (packet .entry)) ⌝ }
 {

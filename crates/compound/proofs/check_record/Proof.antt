@@ -1,7 +1,6 @@
 -- Each way in which a record does not add up; numbers of any size are compared by what is left of the length.
 use mathlib.Core.Path.{sym}
 use native.Mathlib.Omega.{arith}
-use denote.Ref.{now}
 use Rattle.compound.proofs.Record.{length-off, sum-off, adds-up}
 use Rattle.compound.proofs.check_record.Statement.{statement}
 use Rattle.compound.proofs.check_record.Tie as tie

@@ -1,5 +1,5 @@
 -- By the padding bit, and then as the count fits.
-use mathlib.Core.Path.{_≡_, sym, ap, _∙_}
+use mathlib.Core.Path.{sym, ap, _∙_}
 use mathlib.Core.Bool.{not}
 use denote.Ref.{now}
 use Rattle.compound.proofs.Record.{plain-fits, padded-fits}

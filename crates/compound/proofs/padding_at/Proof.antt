@@ -1,5 +1,5 @@
 -- By the padding bit; the count is the packet's last byte.
-use mathlib.Core.Path.{_≡_, sym, _∙_}
+use mathlib.Core.Path.{sym, _∙_}
 use denote.Ref.{now}
 use Rattle.compound.proofs.Record.{padding-clear, padding-set}
 use Rattle.compound.proofs.Laws.{padding-at, last-at}
