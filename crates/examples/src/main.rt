@@ -1,4 +1,5 @@
 // Runs the fixed examples of docs/RULES.md that are not marked P, in its order, and prints what each call answers.
+use compound::Packet;
 use kinds::RefTime;
 use kinds::Seq;
 use libc::STDOUT_FILENO;
@@ -32,6 +33,17 @@ fn say_parse(label: &[u8], bytes: &[u8]) {
     say(label);
     match compound::parse(bytes) {
         Checked::Fine => say(b" parses\n"),
+        Checked::No(r) => {
+            say(b" ");
+            say_values(r);
+        }
+    }
+}
+
+fn say_record(label: &[u8], packet: &[u8], p: Packet) {
+    say(label);
+    match compound::check_record(packet, p) {
+        Checked::Fine => say(b" is of them\n"),
         Checked::No(r) => {
             say(b" ");
             say_values(r);
@@ -201,9 +213,38 @@ fn compounds() {
     );
 }
 
+fn record(length: usize, body: usize, padding: usize) -> Packet {
+    Packet {
+        start: 0,
+        length,
+        body,
+        padding,
+    }
+}
+
+fn records() {
+    say(b"Packet records\n");
+    say_record(
+        b"A0 CB 00 01 00 00 00 02, body 2, padding 2",
+        b"\xa0\xcb\x00\x01\x00\x00\x00\x02",
+        record(8, 2, 2),
+    );
+    say_record(
+        b"80 CB 00 00, length 8, body 4",
+        b"\x80\xcb\x00\x00",
+        record(8, 4, 0),
+    );
+    say_record(
+        b"80 CB 00 00, body 2^64 - 1, padding 1",
+        b"\x80\xcb\x00\x00",
+        record(4, 18446744073709551615, 1),
+    );
+}
+
 fn main() {
     blocks_written();
     blocks_read();
     nacks();
     compounds();
+    records();
 }
