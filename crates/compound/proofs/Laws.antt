@@ -251,12 +251,12 @@ walk-packet bytes at next p steps =
     e = endOf bytes at
 
     found : ltb (length bytes) e ≡ false → eqb (versionOf (drop at bytes)) 2 ≡ true → SharedOut (drop at bytes) → p ≡ packetAt bytes at → next ≡ e → Handed bytes at next p
-    found past version out own z =
+    found past version out own goes =
         rw own
         record {
           starts = refl;
           size = omega arith;
-          turned = record { moves = omega arith; within = omega (arith, ltb-false (length bytes) e past); ends = z; two = eqb-true (versionOf (drop at bytes)) 2 version };
+          turned = record { moves = omega arith; within = omega (arith, ltb-false (length bytes) e past); ends = goes; two = eqb-true (versionOf (drop at bytes)) 2 version };
           own = refl;
           adds-up = omega (arith, out .inside);
           even = out .even;

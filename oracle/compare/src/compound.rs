@@ -80,18 +80,19 @@ impl Readers {
             return;
         };
         let mut offset = 0;
-        let mut over = false;
+        let mut ended = false;
         for packet in compound {
             let expected = match packet {
                 Ok(Packet::Unknown(packet)) => expected_record(packet.data(), offset),
                 Err(error) if !of_known_type(data, offset) => refused_reading(error).into(),
                 _ => return,
             };
-            over = expected.said.number == 2;
+            // At padding that we alone refuse the crate goes on, to the end of the data, where ours is over too.
+            ended = expected.said.number == 2;
             self.walk_on(data, offset, expected);
             offset += length_at(data, offset);
         }
-        if !over {
+        if !ended {
             let end = data.len() as u64;
             self.walk_on(data, offset, Said::answer(&[1, end]));
         }
@@ -411,20 +412,14 @@ fn walk_traffic(readers: &mut Readers) {
         for length in 0..=data.len() {
             readers.walk_through(&data[..length]);
         }
-        for &place in &places {
-            for bit in 0..32 {
-                let mut damaged = data.clone();
-                damaged[place + bit / 8] ^= 0x80 >> (bit % 8);
-                readers.walk_through(&damaged);
-            }
+        for (_, damaged) in turned(&data, &places) {
+            readers.walk_through(&damaged);
         }
         let mut padded = data;
-        let (Some(&place), Some(end)) = (places.last(), padded.len().checked_sub(1)) else {
-            continue;
-        };
-        padded[place] |= 0x20;
+        padded[places[places.len() - 1]] |= 0x20;
+        let end = padded.len();
         for last in 0..=255 {
-            padded[end] = last;
+            padded[end - 1] = last;
             readers.walk_through(&padded);
         }
     }
@@ -468,14 +463,22 @@ fn read_damaged(readers: &mut Readers, data: &[u8], places: &[usize]) {
         readers.read(&data[..length]);
         readers.step(&data[..length], places[places.len() / 2] as u64);
     }
-    for &place in places {
-        for bit in 0..32 {
-            let mut damaged = data.to_vec();
-            damaged[place + bit / 8] ^= 0x80 >> (bit % 8);
-            readers.read(&damaged);
-            readers.step(&damaged, place as u64);
-        }
+    for (place, damaged) in turned(data, places) {
+        readers.read(&damaged);
+        readers.step(&damaged, place as u64);
     }
+}
+
+/// A compound with each bit of each header turned, and the place of that header.
+fn turned<'a>(data: &'a [u8], places: &'a [usize]) -> impl Iterator<Item = (usize, Vec<u8>)> + 'a {
+    let bits = places
+        .iter()
+        .flat_map(|&place| (0..32).map(move |bit| (place, bit)));
+    bits.map(|(place, bit)| {
+        let mut damaged = data.to_vec();
+        damaged[place + bit / 8] ^= 0x80 >> (bit % 8);
+        (place, damaged)
+    })
 }
 
 /// Compounds of packets with any header, mostly whole, some of the largest length.
