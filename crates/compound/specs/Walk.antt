@@ -40,17 +40,18 @@ nextOf (step met next) = next
 unfoldable pub walkNext : List ℕ → ℕ → ℕ
 walkNext bytes at = nextOf (walkStep bytes at)
 
--- the packet that is handed back; where there is none, an empty part of the bytes
-abbrev nowhere : Packet
-nowhere = record { start = 0; length = 0; body = 0; padding = 0 }
+-- where the packet stands that is handed back; where there is none, an empty part of the bytes
+pub record Span : Type 0 where
+  pub start : ℕ
+  pub length : ℕ
 
-abbrev pub packetOf : Step → Packet
-packetOf (step (gave (packet p)) next) = p
-packetOf (step (gave over) next) = nowhere
-packetOf (step (refused number values) next) = nowhere
+abbrev pub spanOf : Step → Span
+spanOf (step (gave (packet p)) next) = record { start = p .start; length = p .length }
+spanOf (step (gave over) next) = record { start = 0; length = 0 }
+spanOf (step (refused number values) next) = record { start = 0; length = 0 }
 
-unfoldable pub walkPart : List ℕ → ℕ → Packet
-walkPart bytes at = packetOf (walkStep bytes at)
+unfoldable pub walkPart : List ℕ → ℕ → Span
+walkPart bytes at = spanOf (walkStep bytes at)
 
 -- what `walk_part` promises: that packet as a part of the lent bytes
 abbrev pub HandsBack : RefT (List ℕ) → ℕ → RefT (List ℕ) → Type 0
