@@ -108,7 +108,8 @@ bog_said bog_unknown_parse(const uint8_t *data, size_t n);
  * Values: 0, next offset, start, length, body, padding of the packet found,
  * where 4 + body + padding is the length; or 1, n where the offset is at or
  * past the end and the walk is over. Start with offset 0 and go on with the
- * next offset; a refusal ends the walk. After bog_compound_parse none comes.
+ * next offset; a refusal ends the walk, and on data that bog_compound_parse
+ * accepted there is none.
  * Refusals: 1 (4 bytes), 1 (its length), 2 (this packet's own version), 5 (a
  * padding count that is 0, no multiple of 4, or above its length less 4).
  */
