@@ -97,7 +97,12 @@ fn found_at(bytes: &[u8], at: usize) -> Result<usize, String> {
     }
     let padded = bytes[at] & 0x20 != 0;
     match misfit(&bytes[at..end]) {
-        Some(wrong) if padded => Err(format!("refused 5: {wrong}\n")),
+        Some(wrong) if padded => {
+            let (kind, count, length) = (bytes[at + 1], bytes[at] & 0x1f, end - at);
+            Err(format!(
+                "refused 5: type {kind}, count {count}, length {length}, {wrong}\n"
+            ))
+        }
         _ => Ok(end),
     }
 }

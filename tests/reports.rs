@@ -122,7 +122,7 @@ fn padding_before_the_last_packet_is_refused() {
         &[
             "first pass: refused 5: the packet at 0 has padding and is not the last",
             HEADING,
-            "walk at 0: refused 5: padding count 0",
+            "walk at 0: refused 5: type 203, count 0, length 4, padding count 0",
         ],
     );
 }
@@ -140,7 +140,7 @@ fn a_padded_block_before_the_last_packet_is_not_read_alone() {
         &[
             "first pass: refused 5: the packet at 0 has padding and is not the last",
             HEADING,
-            "walk at 0: refused 5: padding count 2, which is not a multiple of 4",
+            "walk at 0: refused 5: type 205, count 15, length 24, padding count 2, which is not a multiple of 4",
         ],
     );
 }
@@ -154,7 +154,7 @@ fn padding_comes_before_a_later_version() {
         &[
             "first pass: refused 5: the packet at 0 has padding and is not the last",
             HEADING,
-            "walk at 0: refused 5: padding count 0",
+            "walk at 0: refused 5: type 203, count 0, length 4, padding count 0",
         ],
     );
 }
@@ -192,7 +192,9 @@ fn padding_counts_that_do_not_fit_are_refused() {
         lines.extend(alone.map(|words| format!("its block alone: bogslipper {words} FILE")));
         lines.push(HEADING.to_string());
         lines.push(GOODBYE.to_string());
-        lines.push(format!("walk at 4: refused 5: {wrong}"));
+        lines.push(format!(
+            "walk at 4: refused 5: type 205, count 1, length 20, {wrong}"
+        ));
         let lines: Vec<&str> = lines.iter().map(String::as_str).collect();
         says("compound", &padded_nack(count), 1, &lines);
     }

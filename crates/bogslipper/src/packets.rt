@@ -175,18 +175,27 @@ fn walk(bytes: &[u8]) -> bool {
     true
 }
 
+// Why the walk ended. A packet that is whole, and refused for its padding alone, has no row: its fields are said here.
 fn stopped(bytes: &[u8], at: usize, r: Refusal) {
     let mut line = [0u8; LONGEST];
     let p = line::labelled(&mut line, 0, b"walk at ", at as u64);
     let p = line::text(&mut line, p, b": ");
     let p = match r {
-        Refusal::InvalidPadding => {
-            let p = line::text(&mut line, p, b"refused 5: ");
-            misfit_count(&mut line, p, from(bytes, at))
-        }
+        Refusal::InvalidPadding => misfit_packet(&mut line, p, from(bytes, at)),
         _ => words::refused(&mut line, p, r),
     };
     line::write(line, p, STDOUT_FILENO);
+}
+
+fn misfit_packet(line: &mut [u8; LONGEST], p: usize, packet: &[u8]) -> usize {
+    let kind = field(utils::parse_packet_type(packet));
+    let count = field(utils::parse_count(packet));
+    let length = field(utils::parse_length(packet));
+    let p = line::labelled(line, p, b"refused 5: type ", kind);
+    let p = line::labelled(line, p, b", count ", count);
+    let p = line::labelled(line, p, b", length ", length);
+    let p = line::text(line, p, b", ");
+    misfit_count(line, p, packet)
 }
 
 // A packet that the walk found, and its record.
