@@ -64,8 +64,9 @@ impl<'a> Compound<'a> {
     /// ];
     /// assert_eq!(Compound::parse(&sent).unwrap_err(), Refusal::InvalidPadding);
     /// check_packet(&sent, 12, 205)?;
-    /// let padding = parse_padding(&sent)?.unwrap_or(0);
-    /// let block = Twcc::parse(&sent[12..sent.len() - usize::from(padding)])?;
+    /// let padding = usize::from(parse_padding(&sent)?.unwrap_or(0));
+    /// let size = sent[12..].len().checked_sub(padding).ok_or(Refusal::InvalidPadding)?;
+    /// let block = Twcc::parse(&sent[12..][..size])?;
     /// assert_eq!(block.base_sequence_number(), 7);
     /// # Ok::<(), Refusal>(())
     /// ```
