@@ -172,14 +172,41 @@ bog_said bog_twcc_write(uint16_t base, uint32_t time, uint8_t feedback, const in
                         size_t out_n);
 
 /*
- * Arrival times.
+ * Arrivals, in ticks of 250 microseconds (3.1.5 of the draft). The first
+ * received entry's delta counts from the block's reference time, each later
+ * one's from the received entry before it. A cursor is two numbers, placed and
+ * ticks; each block begins afresh:
+ *
+ *     bog_said at = bog_arrivals(time);
+ *     bool placed = at.values[0];
+ *     int64_t ticks = (int64_t)at.values[1];
+ *     for (k = 0; k < listed; k++) {
+ *         at = bog_arrivals_next(placed, ticks, list[k]);
+ *         placed = at.values[2];
+ *         ticks = (int64_t)at.values[3];
+ *         ... at.values[0] is 3: the packet arrived at `ticks` ...
+ *     }
  */
 
 /*
- * The arrival of a received entry in ticks of 250 microseconds: reference
- * time x 256 + delta. Values: tick (signed). Refusals: 10.
+ * The cursor of a block with this reference time.
+ * Values: placed (1), ticks (signed). Refusals: 10.
  */
-bog_said bog_arrival(uint32_t time, int16_t delta);
+bog_said bog_arrivals(uint32_t time);
+
+/*
+ * One entry's arrival, and the cursor for the next entry. Any word is
+ * welcome, and any cursor.
+ * Values: 0 missing (not received), 1 unreadable (no delta, a reserved symbol,
+ * or a word outside -32,768 to 32,770), 2 unplaced (received, but behind an
+ * unreadable entry), 3 arrived; the bits of the milliseconds as an IEEE 754
+ * binary64, which are the ticks / 4 exactly (0 unless arrived); placed and
+ * ticks (signed) for the next call, where an entry that arrived did so at those
+ * ticks. A cursor that is not placed has ticks that nobody looks at, and 0 in an
+ * answer. Ticks from 2^53 on, either way, have no exact milliseconds: an entry
+ * that would arrive there is unplaced. No refusals.
+ */
+bog_said bog_arrivals_next(bool placed, int64_t ticks, int32_t word);
 
 #ifdef __cplusplus
 }

@@ -211,6 +211,7 @@ fn twcc(block: &[u8]) -> Report {
     }
     let mut deltas = block[at..].iter().copied();
     let mut rows = String::new();
+    let mut last = Some(256 * time);
     for (place, symbol) in listed.iter().enumerate() {
         let number = base.wrapping_add(place as u16);
         let (status, delta) = match symbol {
@@ -227,10 +228,18 @@ fn twcc(block: &[u8]) -> Report {
             },
             _ => ("reserved", None),
         };
-        let ticks = delta.map(|delta| 256 * time + delta);
-        let or_dash = |number: Option<i64>| number.map_or("-".into(), |n| n.to_string());
-        let milliseconds = ticks.map_or("-".into(), |ticks| format!("{:.2}", ticks as f64 / 4.0));
-        let (delta, ticks) = (or_dash(delta), or_dash(ticks));
+        // a delta counts from the arrival before it, which an entry that can't be read takes away
+        last = match status {
+            "received" => last.zip(delta).map(|(last, delta)| last + delta),
+            "not-received" => last,
+            _ => None,
+        };
+        let (ticks, milliseconds) = match (delta, last) {
+            (None, _) => ("-".into(), "-".into()),
+            (Some(_), None) => ("unplaced".into(), "-".into()),
+            (Some(_), Some(ticks)) => (ticks.to_string(), format!("{:.2}", ticks as f64 / 4.0)),
+        };
+        let delta = delta.map_or("-".into(), |delta| delta.to_string());
         rows += &format!("{number:>7}  {status:<12}{delta:>8}{ticks:>14}{milliseconds:>16}\n");
     }
     let (listed, feedback, start) = (listed.len(), block[7], 64 * time);

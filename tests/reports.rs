@@ -251,11 +251,11 @@ fn a_block_of_every_status() {
             "base 65535, statuses 6, listed 6, feedback 9, time 0 (0 ms)",
             " number  status         delta         ticks    milliseconds",
             "  65535  received           7             7            1.75",
-            "      0  received          -2            -2           -0.50",
+            "      0  received          -2             5            1.25",
             "      1  not-received       -             -               -",
             "      2  reserved           -             -               -",
             "      3  not-received       -             -               -",
-            "      4  received         258           258           64.50",
+            "      4  received         258      unplaced               -",
         ],
     );
     says(
@@ -268,6 +268,22 @@ fn a_block_of_every_status() {
             "      5  truncated          -             -               -",
             "      6  truncated          -             -               -",
             "      7  truncated          -             -               -",
+        ],
+    );
+}
+
+#[test]
+fn arrivals_before_zero() {
+    says(
+        "twcc",
+        &[0, 1, 0, 3, 0, 0, 0, 0, 0xe9, 0, 0xff, 0xfe, 0xff, 0xfd, 5],
+        0,
+        &[
+            "base 1, statuses 3, listed 3, feedback 0, time 0 (0 ms)",
+            " number  status         delta         ticks    milliseconds",
+            "      1  received          -2            -2           -0.50",
+            "      2  received          -3            -5           -1.25",
+            "      3  received           5             0            0.00",
         ],
     );
 }

@@ -140,11 +140,35 @@ static void use_twcc_write(void)
           says(bog_twcc_write(1, 16777216, 0, one, 1, false, 0, out, 12), 10, 16777216, 0, 0, 0, 0));
 }
 
-static void use_arrival(void)
+/* The milliseconds that a step answered. */
+static double milliseconds(bog_said said)
 {
-    check("arrival", says(bog_arrival(1, 4), 0, 260, 0, 0, 0, 0));
-    check("arrival, below zero", says(bog_arrival(0, -1), 0, UINT64_MAX, 0, 0, 0, 0));
-    check("arrival, time", says(bog_arrival(16777216, 0), 10, 16777216, 0, 0, 0, 0));
+    double answer;
+    memcpy(&answer, &said.values[1], sizeof answer);
+    return answer;
+}
+
+static void use_arrivals(void)
+{
+    const int32_t words[5] = {4, 32768, -8, 32769, 4};
+    const uint64_t cases[5] = {3, 0, 3, 1, 2};
+    const double times[5] = {65, 0, 63, 0, 0};
+    bog_said at = bog_arrivals(1);
+    int k;
+
+    check("arrivals", says(at, 0, 1, 256, 0, 0, 0));
+    check("arrivals, time", says(bog_arrivals(16777216), 10, 16777216, 0, 0, 0, 0));
+    at.values[2] = at.values[0];
+    at.values[3] = at.values[1];
+    for (k = 0; k < 5; k++) {
+        at = bog_arrivals_next(at.values[2] != 0, (int64_t)at.values[3], words[k]);
+        check("arrivals next, case", at.number == 0 && at.values[0] == cases[k]);
+        check("arrivals next, milliseconds", milliseconds(at) == times[k]);
+    }
+    check("arrivals next, lost", says(at, 0, 2, 0, 0, 0, 0));
+    check("arrivals next, below zero",
+          says(bog_arrivals_next(true, 0, -1), 0, 3, 0xBFD0000000000000, 1, UINT64_MAX, 0));
+    check("arrivals next, not exact", says(bog_arrivals_next(true, INT64_MAX, 1), 0, 2, 0, 0, 0, 0));
 }
 
 int main(void)
@@ -155,7 +179,7 @@ int main(void)
     use_nack();
     use_twcc_read();
     use_twcc_write();
-    use_arrival();
+    use_arrivals();
     printf("c: %d checks, %d failures\n", checks, failures);
     return failures != 0;
 }

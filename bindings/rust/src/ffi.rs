@@ -62,5 +62,6 @@ extern "C" {
         out: *mut u8,
         out_n: usize,
     ) -> Said;
-    pub fn bog_arrival(time: u32, delta: i16) -> Said;
+    pub fn bog_arrivals(time: u32) -> Said;
+    pub fn bog_arrivals_next(placed: bool, ticks: i64, word: i32) -> Said;
 }

@@ -39,7 +39,9 @@ pub mod utils;
 pub use compound::{Compound, Packet, Unknown, UnknownBuilder};
 pub use nack::{Nack, NackBuilder};
 pub use refusal::Refusal;
-pub use twcc::{Twcc, TwccBlocks, TwccBuilder, TwccPacketStatus, TWCC_MAX_REFERENCE_TIME};
+pub use twcc::{
+    Twcc, TwccArrival, TwccBlocks, TwccBuilder, TwccPacketStatus, TWCC_MAX_REFERENCE_TIME,
+};
 
 /// The examples of the migration page.
 #[cfg(doctest)]

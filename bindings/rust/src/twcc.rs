@@ -2,6 +2,7 @@
 //!
 //! [`Twcc`], [`TwccBuilder`] and [`TwccBlocks`] own their memory. [`read`] and [`write()`] work on lent slices and allocate
 //! nothing; an entry is then a status word: a delta, or one of [`NOT_RECEIVED`], [`TRUNCATED`] and [`RESERVED`].
+//! [`Twcc::arrivals`] and [`arrivals`] say when packets arrived.
 
 use std::error::Error;
 use std::fmt;
@@ -14,11 +15,11 @@ use crate::Refusal;
 /// The largest reference time, in units of 64 ms.
 ///
 /// ```
-/// use bogslipper::twcc::arrival;
+/// use bogslipper::twcc::arrivals;
 /// use bogslipper::TWCC_MAX_REFERENCE_TIME;
 ///
-/// assert!(arrival(TWCC_MAX_REFERENCE_TIME, 0).is_ok());
-/// assert!(arrival(TWCC_MAX_REFERENCE_TIME + 1, 0).is_err());
+/// assert!(arrivals(TWCC_MAX_REFERENCE_TIME, [0]).is_ok());
+/// assert!(arrivals(TWCC_MAX_REFERENCE_TIME + 1, [0]).is_err());
 /// ```
 pub const TWCC_MAX_REFERENCE_TIME: u32 = (1 << 24) - 1;
 
@@ -79,7 +80,8 @@ pub enum TwccPacketStatus {
     NotReceived,
     /// The packet was received.
     Received {
-        /// The time from the reference time to its arrival, in ticks of 250 µs.
+        /// The time to its arrival from that of the received packet before it in the block, of the first from the reference
+        /// time, in ticks of 250 µs. [`Twcc::arrivals`] sums them up.
         delta: i16,
     },
     /// The packet was received, and the block ends before its delta. Reading gives it, writing refuses it with 12.
@@ -243,22 +245,118 @@ pub fn write(
     })
 }
 
-/// The arrival of a received packet in ticks of 250 µs: reference time × 256 plus its delta.
+/// When a packet arrived, as far as its block says.
 ///
 /// ```
-/// use bogslipper::twcc::arrival;
+/// use bogslipper::{Refusal, Twcc, TwccArrival};
 ///
-/// assert_eq!(arrival(2, 100), Ok(612));
-/// assert_eq!(arrival(0, -1), Ok(-1));
+/// let twcc = Twcc::parse(&[0, 5, 0, 2, 0, 0, 1, 0, 0xD4, 0x00, 4, 2])?;
+/// let milliseconds: Vec<f64> = twcc
+///     .arrivals()
+///     .filter_map(|(_, arrival)| match arrival {
+///         TwccArrival::Arrived { milliseconds, .. } => Some(milliseconds),
+///         _ => None,
+///     })
+///     .collect();
+/// assert_eq!(milliseconds, [65.0, 65.5]);
+/// # Ok::<(), Refusal>(())
+/// ```
+#[derive(Clone, Copy, Debug, PartialEq)]
+pub enum TwccArrival {
+    /// The packet was not received.
+    Missing,
+    /// The entry can't be read: the block ends before its delta, its symbol is the reserved one, or its word is no status.
+    Unreadable,
+    /// The packet was received, but behind an entry that can't be read, so that nobody can say when.
+    Unplaced,
+    /// The packet arrived.
+    Arrived {
+        /// When, in ticks of 250 µs: the reference time × 256 plus the sum of all deltas up to its own. For sums and comparisons.
+        ticks: i64,
+        /// The same in milliseconds: ticks / 4, exactly. For a display.
+        milliseconds: f64,
+    },
+}
+
+/// The arrivals of a block's status words, one for each; [`arrivals`] makes it.
+///
+/// ```
+/// use bogslipper::twcc::{arrivals, NOT_RECEIVED, TRUNCATED};
+/// use bogslipper::{Refusal, TwccArrival};
+///
+/// let mut arrivals = arrivals(0, [NOT_RECEIVED, TRUNCATED, 4])?;
+/// assert_eq!(arrivals.next(), Some(TwccArrival::Missing));
+/// assert_eq!(arrivals.next(), Some(TwccArrival::Unreadable));
+/// assert_eq!(arrivals.next(), Some(TwccArrival::Unplaced));
+/// assert_eq!(arrivals.next(), None);
+/// # Ok::<(), Refusal>(())
+/// ```
+#[derive(Clone, Debug)]
+#[must_use = "an iterator gives nothing until it is asked"]
+pub struct TwccArrivals<I> {
+    words: I,
+    placed: bool,
+    ticks: i64,
+}
+
+impl<I: Iterator<Item = i32>> Iterator for TwccArrivals<I> {
+    type Item = TwccArrival;
+
+    fn next(&mut self) -> Option<TwccArrival> {
+        let word = self.words.next()?;
+        // SAFETY: the call is lent no memory.
+        let said = unsafe { ffi::bog_arrivals_next(self.placed, self.ticks, word) };
+        let [case, bits, placed, ticks, ..] = said.values;
+        self.placed = placed == 1;
+        self.ticks = ticks as i64;
+        Some(match case {
+            0 => TwccArrival::Missing,
+            1 => TwccArrival::Unreadable,
+            2 => TwccArrival::Unplaced,
+            _ => TwccArrival::Arrived {
+                ticks: self.ticks,
+                milliseconds: f64::from_bits(bits),
+            },
+        })
+    }
+
+    fn size_hint(&self) -> (usize, Option<usize>) {
+        self.words.size_hint()
+    }
+}
+
+impl<I: ExactSizeIterator<Item = i32>> ExactSizeIterator for TwccArrivals<I> {}
+
+impl<I: FusedIterator<Item = i32>> FusedIterator for TwccArrivals<I> {}
+
+/// The arrivals of one block: its reference time and its status words, as [`read`] lists them.
+///
+/// The first received packet's delta counts from the reference time, each later one's from the received packet before it.
+/// Begin again with each block.
+///
+/// ```
+/// use bogslipper::twcc::arrivals;
+/// use bogslipper::{Refusal, TwccArrival};
+///
+/// let arrived = |ticks, milliseconds| TwccArrival::Arrived { ticks, milliseconds };
+/// assert!(arrivals(2, [100, -1])?.eq([arrived(612, 153.0), arrived(611, 152.75)]));
+/// # Ok::<(), Refusal>(())
 /// ```
 ///
 /// # Refusals
 ///
 /// 10, reference time above 16,777,215.
-pub fn arrival(reference_time: u32, delta: i16) -> Result<i64, Refusal> {
+pub fn arrivals<W>(reference_time: u32, words: W) -> Result<TwccArrivals<W::IntoIter>, Refusal>
+where
+    W: IntoIterator<Item = i32>,
+{
     // SAFETY: the call is lent no memory.
-    let [tick, ..] = unsafe { ffi::bog_arrival(reference_time, delta) }.result()?;
-    Ok(tick as i64)
+    let [_, ticks, ..] = unsafe { ffi::bog_arrivals(reference_time) }.result()?;
+    Ok(TwccArrivals {
+        words: words.into_iter(),
+        placed: true,
+        ticks: ticks as i64,
+    })
 }
 
 /// A block that was read.
@@ -401,8 +499,34 @@ impl Twcc {
     /// # Ok::<(), Refusal>(())
     /// ```
     pub fn packets(&self) -> impl Iterator<Item = (u16, TwccPacketStatus)> + '_ {
-        let numbered = |(place, &status)| (self.header.base.wrapping_add(place as u16), status);
-        self.statuses.iter().enumerate().map(numbered)
+        self.numbered(self.statuses.iter().copied())
+    }
+
+    /// The packets' numbers, each with its arrival: the reference time plus the sum of all deltas up to its own.
+    ///
+    /// ```
+    /// use bogslipper::{Refusal, Twcc, TwccArrival};
+    ///
+    /// let twcc = Twcc::parse(&[0, 5, 0, 3, 0, 0, 1, 0, 0xD1, 0x00, 4, 2])?;
+    /// assert!(twcc.arrivals().eq([
+    ///     (5, TwccArrival::Arrived { ticks: 260, milliseconds: 65.0 }),
+    ///     (6, TwccArrival::Missing),
+    ///     (7, TwccArrival::Arrived { ticks: 262, milliseconds: 65.5 }),
+    /// ]));
+    /// # Ok::<(), Refusal>(())
+    /// ```
+    pub fn arrivals(&self) -> impl Iterator<Item = (u16, TwccArrival)> + '_ {
+        let words = self.statuses.iter().map(|status| status.to_word());
+        self.numbered(arrivals(self.header.reference_time, words).expect("a block's time fits"))
+    }
+
+    /// What there is of each packet, behind the packet's number.
+    fn numbered<'a, T: 'a>(
+        &'a self,
+        each: impl Iterator<Item = T> + 'a,
+    ) -> impl Iterator<Item = (u16, T)> + 'a {
+        let number = |(place, item)| (self.header.base.wrapping_add(place as u16), item);
+        each.enumerate().map(number)
     }
 }
 

@@ -2,8 +2,13 @@
 
 mod common;
 
-use bogslipper::twcc::{self, arrival, CutError, TwccHeader, TwccWritten, MAX_ENTRIES};
-use bogslipper::{Refusal, Twcc, TwccBlocks, TwccPacketStatus, TWCC_MAX_REFERENCE_TIME};
+use bogslipper::twcc::{
+    self, arrivals, CutError, TwccHeader, TwccWritten, MAX_ENTRIES, NOT_RECEIVED, RESERVED,
+    TRUNCATED,
+};
+use bogslipper::{
+    Refusal, Twcc, TwccArrival, TwccBlocks, TwccPacketStatus, TWCC_MAX_REFERENCE_TIME,
+};
 use common::{bytes, Random};
 use TwccPacketStatus::{NotReceived, Received, Reserved, Truncated};
 
@@ -214,20 +219,117 @@ fn statuses_and_words_are_the_same() {
     }
 }
 
-#[test]
-fn arrivals_in_ticks() {
-    assert_eq!(arrival(0, 0), Ok(0));
-    assert_eq!(arrival(0, i16::MIN), Ok(-32_768));
-    assert_eq!(
-        arrival(TWCC_MAX_REFERENCE_TIME, i16::MAX),
-        Ok(16_777_215 * 256 + 32_767)
-    );
-    for time in [TWCC_MAX_REFERENCE_TIME + 1, u32::MAX] {
-        assert_eq!(
-            arrival(time, 0),
-            Err(Refusal::ReferenceTimeTooLarge { time })
-        );
+fn at(ticks: i64, milliseconds: f64) -> TwccArrival {
+    TwccArrival::Arrived {
+        ticks,
+        milliseconds,
     }
+}
+
+#[test]
+fn arrivals_sum_the_deltas_up() {
+    let all = |time, words: &[i32]| -> Vec<TwccArrival> {
+        let arrivals = arrivals(time, words.iter().copied());
+        arrivals.expect("a time that fits").collect()
+    };
+    assert_eq!(
+        all(1, &[4, 4, -8]),
+        [at(260, 65.0), at(264, 66.0), at(256, 64.0)]
+    );
+    assert_eq!(all(0, &[-2, -3]), [at(-2, -0.5), at(-5, -1.25)]);
+    assert_eq!(
+        all(TWCC_MAX_REFERENCE_TIME, &[32_767, 32_767]),
+        [
+            at(4_294_999_807, 1_073_749_951.75),
+            at(4_295_032_574, 1_073_758_143.5)
+        ]
+    );
+    assert_eq!(all(7, &[]), []);
+}
+
+#[test]
+fn behind_an_unreadable_entry_nothing_is_placed() {
+    for unreadable in [TRUNCATED, RESERVED, 32_771, -32_769, i32::MIN, i32::MAX] {
+        let words = [4, unreadable, 4, NOT_RECEIVED, 4];
+        let arrivals: Vec<_> = arrivals(0, words).expect("a time that fits").collect();
+        let expected = [
+            at(4, 1.0),
+            TwccArrival::Unreadable,
+            TwccArrival::Unplaced,
+            TwccArrival::Missing,
+            TwccArrival::Unplaced,
+        ];
+        assert_eq!(arrivals, expected);
+    }
+}
+
+#[test]
+fn zero_milliseconds_have_no_sign() {
+    let mut arrivals = arrivals(0, [-4, 4]).expect("a time that fits");
+    assert_eq!(arrivals.next(), Some(at(-4, -1.0)));
+    let Some(TwccArrival::Arrived { milliseconds, .. }) = arrivals.next() else {
+        panic!("the second packet arrived");
+    };
+    assert_eq!(milliseconds.to_bits(), 0);
+}
+
+#[test]
+fn arrivals_refuse_a_time_that_does_not_fit() {
+    for time in [TWCC_MAX_REFERENCE_TIME + 1, u32::MAX] {
+        let refusal = Refusal::ReferenceTimeTooLarge { time };
+        assert_eq!(arrivals(time, [0]).err(), Some(refusal));
+    }
+}
+
+#[test]
+fn arrivals_are_as_many_as_entries() {
+    let arrivals = arrivals(0, [0; 9]).expect("a time that fits");
+    assert_eq!(arrivals.len(), 9);
+    assert_eq!(arrivals.count(), 9);
+}
+
+/// A block that Chromium sent, taken apart by hand from the draft, 3.1: the chunk D950 is two-bit symbols, 1 2 1 1 1, so that
+/// the deltas are 91, FFD5, 21, 8F and 0D, that is 145, -43, 33, 143 and 13. The reference time, 3F67, is 16,231 × 64 ms, and
+/// that is 4,155,136 ticks.
+#[test]
+fn arrivals_of_a_block_of_chromium() {
+    let block = [
+        0x00, 0x1D, 0x00, 0x05, 0x00, 0x3F, 0x67, 0x02, 0xD9, 0x50, 0x91, 0xFF, 0xD5, 0x21, 0x8F,
+        0x0D,
+    ];
+    let twcc = Twcc::parse(&block).expect("a block");
+    assert!(twcc.arrivals().eq([
+        (29, at(4_155_281, 1_038_820.25)),
+        (30, at(4_155_238, 1_038_809.5)),
+        (31, at(4_155_271, 1_038_817.75)),
+        (32, at(4_155_414, 1_038_853.5)),
+        (33, at(4_155_427, 1_038_856.75)),
+    ]));
+}
+
+/// A block that GStreamer sent, with two packets lost: the chunks D560 and D640 are two-bit symbols, 1 1 1 1 2 0 0 and 1 1 2 1,
+/// so that the deltas are CD, 19, 1B, 57, FFDF, 8D, 53, FFDB and 91, that is 205, 25, 27, 87, -33, 141, 83, -37 and 145. The
+/// reference time is 0.
+#[test]
+fn arrivals_of_a_block_of_gstreamer() {
+    let block = [
+        0x00, 0x00, 0x00, 0x0B, 0x00, 0x00, 0x00, 0x00, 0xD5, 0x60, 0xD6, 0x40, 0xCD, 0x19, 0x1B,
+        0x57, 0xFF, 0xDF, 0x8D, 0x53, 0xFF, 0xDB, 0x91, 0x00,
+    ];
+    let twcc = Twcc::parse(&block).expect("a block");
+    assert!(twcc.arrivals().eq([
+        (0, at(205, 51.25)),
+        (1, at(230, 57.5)),
+        (2, at(257, 64.25)),
+        (3, at(344, 86.0)),
+        (4, at(311, 77.75)),
+        (5, TwccArrival::Missing),
+        (6, TwccArrival::Missing),
+        (7, at(452, 113.0)),
+        (8, at(535, 133.75)),
+        (9, at(498, 124.5)),
+        (10, at(643, 160.75)),
+    ]));
 }
 
 #[test]

@@ -1,1 +1,3 @@
-pub mod Arrival
+pub mod Arrivals
+pub mod Cursor
+pub mod Overlay

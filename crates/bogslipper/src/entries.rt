@@ -2,8 +2,9 @@
 use crate::line;
 use crate::line::LONGEST;
 use crate::words;
-use arrival::Arrived;
-use kinds::RefTime;
+use arrival::Arrival;
+use arrival::Arrivals;
+use arrival::Begun;
 use kinds::Seq;
 use kinds::Tick;
 use libc::STDOUT_FILENO;
@@ -63,35 +64,47 @@ fn milliseconds(time: u32) -> u64 {
 }
 
 fn entries(list: &[i32], listed: Listed) {
+    let header = listed.header;
+    match Arrivals::of(header.time) {
+        Begun::Arrivals(arrivals) => arrived(list, listed, arrivals),
+        Begun::No(r) => words::say(r),
+    }
+}
+
+fn arrived(list: &[i32], listed: Listed, first: Arrivals) {
     io::write_all(
         STDOUT_FILENO,
         b" number  status         delta         ticks    milliseconds\n",
     );
     let header = listed.header;
-    let time = header.time;
     let count = listed.count;
     let mut number = header.base;
+    let mut arrivals = first;
     let mut i = 0;
     while i < count {
         if i < list.len() {
-            entry(number, time, list[i]);
+            let word = list[i];
+            let met = arrivals.next(word);
+            let arrival = met.arrival;
+            entry(number, word, arrival);
+            arrivals = met.next;
         }
         number = number.next();
         i += 1;
     }
 }
 
-fn entry(number: Seq, time: RefTime, word: i32) {
+fn entry(number: Seq, word: i32, arrival: Arrival) {
     let mut line = [0u8; LONGEST];
     let p = line::number(&mut line, 0, short(number.0), 7);
     let p = line::text(&mut line, p, b"  ");
-    let p = status(&mut line, p, time, word);
+    let p = status(&mut line, p, word, arrival);
     line::write(line, p, STDOUT_FILENO);
 }
 
-fn status(line: &mut [u8; LONGEST], at: usize, time: RefTime, word: i32) -> usize {
+fn status(line: &mut [u8; LONGEST], at: usize, word: i32, arrival: Arrival) -> usize {
     match Status::of(word) {
-        Status::Received(delta) => received(line, at, time, delta),
+        Status::Received(delta) => received(line, at, delta, arrival),
         Status::NotReceived => without(line, at, b"not-received"),
         Status::Truncated => without(line, at, b"truncated"),
         Status::Reserved => without(line, at, b"reserved"),
@@ -111,17 +124,17 @@ fn ticks(delta: i16) -> i64 {
     delta as i64
 }
 
-fn received(line: &mut [u8; LONGEST], at: usize, time: RefTime, delta: i16) -> usize {
+fn received(line: &mut [u8; LONGEST], at: usize, delta: i16, arrival: Arrival) -> usize {
     let p = line::left(line, at, b"received", 12);
     let p = signed(line, p, Tick(ticks(delta)), 8);
-    match arrival::arrival(time, delta) {
-        Arrived::At(tick) => {
+    match arrival {
+        Arrival::At(tick) => {
             let p = signed(line, p, tick, 14);
             quarters(line, p, tick, 16)
         }
-        Arrived::No(r) => {
-            let p = line::text(line, p, b"  ");
-            words::refused(line, p, r)
+        _ => {
+            let p = line::right(line, p, b"unplaced", 14);
+            line::right(line, p, b"-", 16)
         }
     }
 }

@@ -1,7 +1,11 @@
 // Runs the fixed examples of docs/RULES.md that are not marked P, in its order, and prints what each call answers.
+use arrival::Arrival;
+use arrival::Arrivals;
+use arrival::Begun;
 use compound::Packet;
 use kinds::RefTime;
 use kinds::Seq;
+use kinds::Tick;
 use libc::STDOUT_FILENO;
 use refusal::Checked;
 use refusal::Number;
@@ -166,6 +170,34 @@ fn say_twcc_read(label: &[u8], block: &[u8]) {
     }
 }
 
+fn say_begun(label: &[u8], time: u32) {
+    say(label);
+    match Arrivals::of(RefTime(time)) {
+        Begun::Arrivals(_) => say(b" begins\n"),
+        Begun::No(r) => {
+            say(b" ");
+            say_values(r);
+        }
+    }
+}
+
+// The entry of a word behind a tick.
+fn say_arrival(label: &[u8], tick: i64, word: i32) {
+    say(label);
+    let arrivals = Arrivals::From(Tick(tick));
+    let entry = arrivals.next(word);
+    let arrival = entry.arrival;
+    match arrival {
+        Arrival::At(tick) => {
+            say(b" arrived at ");
+            say_number(arrival::bits(tick));
+            say(b"\n");
+        }
+        Arrival::Unplaced => say(b" is unplaced\n"),
+        _ => say(b" is another\n"),
+    }
+}
+
 fn blocks_written() {
     say(b"TWCC, writing\n");
     let lost = [32768i32; 8192];
@@ -182,6 +214,17 @@ fn blocks_read() {
         b"00 05 00 01 00 00 00 00 20 00 20 01 09",
         b"\x00\x05\x00\x01\x00\x00\x00\x00\x20\x00\x20\x01\x09",
     );
+}
+
+fn arrivals() {
+    say(b"Arrivals\n");
+    say_begun(b"time 16777215", 16777215);
+    say_begun(b"time 16777216", 16777216);
+    say_arrival(b"delta 1 behind 2^53 - 2", 9007199254740990, 1);
+    say_arrival(b"delta 1 behind 2^53 - 1", 9007199254740991, 1);
+    say_arrival(b"delta -1 behind 2^53", 9007199254740992, -1);
+    say_arrival(b"delta 32767 behind 2^63 - 1", 9223372036854775807, 32767);
+    say_arrival(b"delta -32768 behind -2^63", -9223372036854775808, -32768);
 }
 
 fn nacks() {
@@ -244,6 +287,7 @@ fn records() {
 fn main() {
     blocks_written();
     blocks_read();
+    arrivals();
     nacks();
     compounds();
     records();

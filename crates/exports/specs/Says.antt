@@ -2,11 +2,19 @@
 use Prim.Native.Nat.{ℕ, zero, suc}
 use mathlib.Core.List.{List, [], _∷_}
 use mathlib.Core.Path.{_≡_}
+use mathlib.Core.Bool.{Bool, true, false}
 use lib.IntN.{ℤ, pos}
 use Rattle.refusal.specs.Outcome.{Outcome, gave, refused}
 use Rattle.refusal.specs.Told.{valueBits}
 use Rattle.utils.specs.Check.{Padding, clear, byte}
 use Rattle.compound.specs.Walk.{Met, over, packet, Step, step}
+use Rattle.arrival.specs.Cursor.{from}
+use Rattle.arrival.specs.Overlay.{shownOf, shownBits}
+use Rattle.arrival.specs.declared.Arrivals.{Arrivals}
+use Rattle.arrival.specs.declared.Arrivals.the-variants.{From, Lost}
+use Rattle.arrival.specs.declared.Entry.{Entry}
+use Rattle.arrival.specs.declared.Overlay.{Overlay}
+use Rattle.arrival.specs.declared.Overlay.the-variants.{Missing, Unreadable, Unplaced, Arrived}
 use Rattle.twcc_read.specs.declared.Listed.{Listed}
 use Rattle.twcc_write.specs.declared.Used.{Used}
 use Rattle.exports.specs.declared.Said.{Said}
@@ -40,9 +48,6 @@ nothing = answered (λ _. [])
 unfoldable pub number : Outcome ℕ → Outcome (List ℤ)
 number = answered (λ n. pos n ∷ [])
 
-unfoldable pub signed : Outcome ℤ → Outcome (List ℤ)
-signed = answered (λ z. z ∷ [])
-
 -- 0 where the bit is clear; 1, byte
 abbrev pub paddingValues : Padding → List ℤ
 paddingValues clear = pos 0 ∷ []
@@ -68,3 +73,31 @@ listedBlock =
 -- bytes written, entries taken
 unfoldable pub block : Outcome Used → Outcome (List ℤ)
 block = answered (λ used. pos (used .bytes) ∷ pos (used .taken) ∷ [])
+
+-- whether a cursor is placed, and its ticks; 0 where they are lost
+abbrev pub placedOf : Arrivals → ℕ
+placedOf (From tick) = 1
+placedOf Lost = 0
+
+abbrev pub tickOf : Arrivals → ℤ
+tickOf (From tick) = tick .0
+tickOf Lost = pos 0
+
+unfoldable pub started : Outcome Arrivals → Outcome (List ℤ)
+started = answered (λ c. pos (placedOf c) ∷ tickOf c ∷ [])
+
+-- the cursor that a caller's numbers stand for
+abbrev pub cursor : Bool → ℤ → Arrivals
+cursor true ticks = from ticks
+cursor false ticks = Lost
+
+-- the number of a display's case
+abbrev pub caseOf : Overlay → ℕ
+caseOf Missing = 0
+caseOf Unreadable = 1
+caseOf Unplaced = 2
+caseOf (Arrived milliseconds) = 3
+
+-- the case, the milliseconds' bits, placed and ticks for the next call
+unfoldable pub entry : Entry → Outcome (List ℤ)
+entry e = gave (pos (caseOf (shownOf (e .arrival))) ∷ pos (shownBits (e .arrival)) ∷ pos (placedOf (e .next)) ∷ tickOf (e .next) ∷ [])

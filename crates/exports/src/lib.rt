@@ -1,9 +1,13 @@
 // The C interface, as include/bogslipper.h declares it: the proved functions under plain names, each answer a struct of
 // numbers. An export promises what the function behind it promises.
-use arrival::Arrived;
+use arrival::Arrivals;
+use arrival::Begun;
+use arrival::Entry;
+use arrival::Overlay;
 use compound::Found;
 use kinds::RefTime;
 use kinds::Seq;
+use kinds::Tick;
 use refusal::Checked;
 use refusal::Number;
 use refusal::Refusal;
@@ -14,6 +18,7 @@ use utils::Padded;
 ghost use mathlib.Core.Path.{_≡_};
 ghost use mathlib.Core.List.{[], _∷_};
 ghost use lib.IntN.{pos};
+ghost use Rattle.octets.specs.Signed.{bits64};
 ghost use Rattle.refusal.specs.Number.{no};
 ghost use Rattle.refusal.specs.Said.{saidChecked, saidNumber};
 ghost use Rattle.utils.specs.Header.{versionOf, paddingBitOf, countOf, typeOf, lengthOf};
@@ -21,9 +26,9 @@ ghost use Rattle.utils.specs.Check.{field, paddingByte, checkPacket};
 ghost use Rattle.unknown.specs.Parse.{unknown};
 ghost use Rattle.compound.specs.Pass.{firstPass};
 ghost use Rattle.compound.specs.Walk.{walkStep};
-ghost use Rattle.arrival.specs.Arrival.{arrivalOf};
+ghost use Rattle.arrival.specs.Cursor.{begun, nextArrival};
 ghost use Rattle.twcc_write.specs.Promise.{saidWritten};
-ghost use Rattle.exports.specs.Says.{says, Answers, nothing, number, signed, padding, walk, block};
+ghost use Rattle.exports.specs.Says.{says, Answers, nothing, number, padding, walk, block, placedOf, tickOf, started, cursor, entry};
 ghost use Rattle.exports.specs.Wrote.{WroteUnknown, AddedNack, ReadNack, WroteNack, ReadTwcc, given, WroteTwcc};
 
 // Number 0 and the answer's values, or a refusal's number and its values; the rest 0.
@@ -50,10 +55,16 @@ fn five(a: u64, b: u64, c: u64, d: u64, e: u64) -> Said
     six(a, b, c, d, e, 0)
 }
 
+fn four(a: u64, b: u64, c: u64, d: u64) -> Said
+    ensures { λ s. ⌜ s ≡ says 0 (pos a ∷ pos b ∷ pos c ∷ pos d ∷ []) ⌝ }
+{
+    five(a, b, c, d, 0)
+}
+
 fn two(a: u64, b: u64) -> Said
     ensures { λ s. ⌜ s ≡ says 0 (pos a ∷ pos b ∷ []) ⌝ }
 {
-    five(a, b, 0, 0, 0)
+    four(a, b, 0, 0)
 }
 
 fn one(a: u64) -> Said
@@ -243,14 +254,66 @@ pub extern "C" fn bog_twcc_read(block: &[u8], list: &mut [i32]) -> Said
     }
 }
 
-#[no_mangle]
-pub extern "C" fn bog_arrival(time: u32, delta: i16) -> Said
-    ensures { λ s. ⌜ Answers (signed (arrivalOf time delta)) s ⌝ }
+// A cursor as plain numbers.
+struct State {
+    placed: u64,
+    ticks: u64,
+}
+
+fn plain(arrivals: Arrivals) -> State
+    ensures { λ r. ⌜ (r .placed ≡ placedOf arrivals) × (r .ticks ≡ bits64 (tickOf arrivals)) ⌝ }
 {
-    match arrival::arrival(RefTime(time), delta) {
-        Arrived::At(tick) => one(arrival::bits(tick)),
-        Arrived::No(r) => refused(r),
+    match arrivals {
+        Arrivals::From(tick) => State {
+            placed: 1,
+            ticks: arrival::bits(tick),
+        },
+        Arrivals::Lost => State {
+            placed: 0,
+            ticks: 0,
+        },
     }
+}
+
+#[no_mangle]
+pub extern "C" fn bog_arrivals(time: u32) -> Said
+    ensures { λ s. ⌜ Answers (started (begun time)) s ⌝ }
+{
+    match Arrivals::of(RefTime(time)) {
+        Begun::Arrivals(arrivals) => {
+            let now = plain(arrivals);
+            two(now.placed, now.ticks)
+        }
+        Begun::No(r) => refused(r),
+    }
+}
+
+fn said_entry(met: Entry) -> Said
+    ensures { λ s. ⌜ Answers (entry met) s ⌝ }
+{
+    let arrival = met.arrival;
+    let after = met.next;
+    let next = plain(after);
+    match arrival.shown() {
+        Overlay::Missing => four(0, 0, next.placed, next.ticks),
+        Overlay::Unreadable => four(1, 0, next.placed, next.ticks),
+        Overlay::Unplaced => four(2, 0, next.placed, next.ticks),
+        Overlay::Arrived(milliseconds) => {
+            four(3, f64::to_bits(milliseconds), next.placed, next.ticks)
+        }
+    }
+}
+
+#[no_mangle]
+pub extern "C" fn bog_arrivals_next(placed: bool, ticks: i64, word: i32) -> Said
+    ensures { λ s. ⌜ Answers (entry (nextArrival (cursor placed ticks) word)) s ⌝ }
+{
+    if placed {
+        let arrivals = Arrivals::From(Tick(ticks));
+        return said_entry(arrivals.next(word));
+    }
+    let arrivals = Arrivals::Lost;
+    said_entry(arrivals.next(word))
 }
 
 fn said_written(answer: Written) -> Said

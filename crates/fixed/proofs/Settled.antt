@@ -3,6 +3,7 @@ use Prim.Native.Nat.{ℕ, _<_}
 use mathlib.Core.Path.{refl}
 use mathlib.Core.List.{[], _∷_}
 use native.Mathlib.Omega.{arith}
+use lib.Count.{leadingZeros}
 use Rattle.lent.specs.Bytes.{zeroBytes}
 use Rattle.utils.specs.Check.{ownLength, checkLength, paddingFits}
 use Rattle.compound.specs.Pass.{firstTurn, turnsFrom, passBy, firstPass}
@@ -14,6 +15,9 @@ use Rattle.nack.proofs.Back.{rising-bytes}
 use Rattle.twcc.specs.Words.{signed16, wordOf, entries, symbolOf, widthOf, bytesOf, bits16, deltaBytes, deltas}
 use Rattle.twcc.specs.Chunks.{unpack, standsFor, pack, chunkWord, chunkBytes}
 use Rattle.twcc.specs.Block.{symbols, afterChunks, blockSymbols, blockDeltas, listed}
+use Rattle.twcc.specs.Status.{statusOf}
+use Rattle.arrival.specs.Arrivals.{sumOf, readable, arrivalsBehind}
+use Rattle.arrival.specs.Overlay.{quarters}
 use Rattle.twcc_plan.specs.Front.{front}
 use Rattle.twcc_plan.specs.Choice.{runOf, onesOf, choice, chunkFor, takenBy, widthBy}
 use Rattle.twcc_plan.specs.Limits.{shorten, fitted, next}
@@ -26,5 +30,5 @@ rises : (second : ℕ) → 0 < second → second < 65536 → Rising 65536 0 (0 �
 rises second above below = more {low = 0} {n = 0} (omega arith) (omega arith) (more {low = 1} {n = second} (omega arith) below none)
 
 pub examples : Settled
-unfolding settled table ownLength checkLength paddingFits firstTurn turnsFrom passBy firstPass paddingOf misfits checkRecord ownRecord walkStep readNack entriesIn allNamed masked allBytes entriesOf grow listed blockSymbols blockDeltas entries symbols afterChunks standsFor unpack wordOf bytesOf signed16 blockBytes header body takenOf chunksOf takenIn plan morePlan next fitted shorten widthBy takenBy chunkFor choice onesOf runOf front symbolOf widthOf bits16 deltaBytes deltas pack chunkWord chunkBytes zeroBytes
+unfolding settled table statusOf sumOf readable arrivalsBehind quarters leadingZeros ownLength checkLength paddingFits firstTurn turnsFrom passBy firstPass paddingOf misfits checkRecord ownRecord walkStep readNack entriesIn allNamed masked allBytes entriesOf grow listed blockSymbols blockDeltas entries symbols afterChunks standsFor unpack wordOf bytesOf signed16 blockBytes header body takenOf chunksOf takenIn plan morePlan next fitted shorten widthBy takenBy chunkFor choice onesOf runOf front symbolOf widthOf bits16 deltaBytes deltas pack chunkWord chunkBytes zeroBytes
 examples = rw (rising-bytes (0 ∷ 16 ∷ []) (rises 16 (omega arith) (omega arith)), rising-bytes (0 ∷ 17 ∷ []) (rises 17 (omega arith) (omega arith))) refl

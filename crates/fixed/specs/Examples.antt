@@ -3,7 +3,7 @@ use Prim.Native.Nat.{ℕ}
 use mathlib.Core.Path.{_≡_}
 use mathlib.Core.List.{List, [], _∷_, _++_, map}
 use mathlib.Core.Option.{Option, none, some}
-use lib.IntN.{ℤ, pos}
+use lib.IntN.{ℤ, pos, negsuc}
 use lib.ListN.{replicate}
 use Rattle.refusal.specs.Outcome.{Outcome, gave, refuse}
 use Rattle.compound.specs.Pass.{firstPass}
@@ -14,6 +14,10 @@ use Rattle.nack_store.specs.Bits.{addedAll, emptyStore}
 use Rattle.nack.specs.Entries.{nackBytes, readNack}
 use Rattle.twcc.specs.Words.{notReceived, truncated, reserved}
 use Rattle.twcc.specs.Block.{baseOf, listed}
+use Rattle.arrival.specs.Arrivals.{ticksOf, at, arrivals}
+use Rattle.arrival.specs.Overlay.{millisecondBits}
+use Rattle.arrival.specs.declared.Arrival.{Arrival}
+use Rattle.arrival.specs.declared.Arrival.the-variants.{Missing, Unreadable, Unplaced}
 use Rattle.twcc_plan.specs.Block.{takenOf, blockBytes}
 
 -- a question, and behind it its answer
@@ -22,6 +26,10 @@ pub data Row : Type 0 where
   writeBlock : Option ℕ → List ℤ → ℕ → List ℕ → Row
   -- a block's bytes; its base and its words
   readBlock : List ℕ → ℕ → List ℤ → Row
+  -- a reference time and a block's words; their arrivals
+  times : ℕ → List ℤ → List Arrival → Row
+  -- a tick; the bits of its milliseconds
+  milliseconds : ℤ → ℕ → Row
   -- the numbers added to an empty store of 8,192 bytes; the bytes that the store is written as
   writeNack : List ℕ → List ℕ → Row
   -- bytes; the numbers that they name
@@ -39,6 +47,8 @@ pub data Row : Type 0 where
 unfoldable pub settled : Row → Row
 settled (writeBlock limit list taken block) = writeBlock limit list (takenOf limit list) (blockBytes 1 0 0 limit list)
 settled (readBlock block base words) = readBlock block (baseOf block) (listed block)
+settled (times time words answer) = times time words (arrivals (ticksOf time) words)
+settled (milliseconds tick bits) = milliseconds tick (millisecondBits tick)
 settled (writeNack numbers bytes) = writeNack numbers (nackBytes (addedAll emptyStore numbers))
 settled (readNumbers bytes numbers) = readNumbers bytes (readNack bytes)
 settled (pass bytes verdict) = pass bytes (firstPass bytes)
@@ -67,6 +77,16 @@ table =
     ∷ 0x01 ∷ 0x00 ∷ 0x01 ∷ 0x00 ∷ 0x01 ∷ 0x00 ∷ 0x01 ∷ 0x00 ∷ 0x01 ∷ 0x00 ∷ 0x01 ∷ 0x00 ∷ 0x01 ∷ 0x00 ∷ [])
     ∷ readBlock (0x00 ∷ 0x05 ∷ 0x00 ∷ 0x02 ∷ 0x00 ∷ 0x00 ∷ 0x00 ∷ 0x00 ∷ 0xE4 ∷ 0x00 ∷ 0x7F ∷ []) 5 (truncated ∷ truncated ∷ [])
     ∷ readBlock (0x00 ∷ 0x05 ∷ 0x00 ∷ 0x02 ∷ 0x00 ∷ 0x00 ∷ 0x00 ∷ 0x00 ∷ 0xF4 ∷ 0x00 ∷ 0x09 ∷ []) 5 (reserved ∷ pos 9 ∷ [])
+    ∷ times 1 (pos 4 ∷ notReceived ∷ negsuc 0 ∷ pos 10 ∷ []) (at (pos 260) ∷ Missing ∷ at (pos 259) ∷ at (pos 269) ∷ [])
+    ∷ times 0 (negsuc 1 ∷ negsuc 2 ∷ pos 5 ∷ []) (at (negsuc 1) ∷ at (negsuc 4) ∷ at (pos 0) ∷ [])
+    ∷ times 16777215 (pos 32767 ∷ negsuc 32767 ∷ []) (at (pos 4294999807) ∷ at (pos 4294967039) ∷ [])
+    ∷ times 1 (pos 4 ∷ truncated ∷ pos 4 ∷ notReceived ∷ reserved ∷ []) (at (pos 260) ∷ Unreadable ∷ Unplaced ∷ Missing ∷ Unreadable ∷ [])
+    ∷ times 1 (pos 32771 ∷ pos 4 ∷ negsuc 32768 ∷ []) (Unreadable ∷ Unplaced ∷ Unreadable ∷ [])
+    ∷ milliseconds (pos 0) 0x0000000000000000
+    ∷ milliseconds (pos 1) 0x3FD0000000000000
+    ∷ milliseconds (pos 6) 0x3FF8000000000000
+    ∷ milliseconds (negsuc 3) 0xBFF0000000000000
+    ∷ milliseconds (pos 9007199254740991) 0x431FFFFFFFFFFFFF
     ∷ writeNack (0 ∷ 16 ∷ []) (0x00 ∷ 0x00 ∷ 0x80 ∷ 0x00 ∷ [])
     ∷ writeNack (0 ∷ 17 ∷ []) (0x00 ∷ 0x00 ∷ 0x00 ∷ 0x00 ∷ 0x00 ∷ 0x11 ∷ 0x00 ∷ 0x00 ∷ [])
     ∷ readNumbers (0xFF ∷ 0xFF ∷ 0x00 ∷ 0x01 ∷ []) (65535 ∷ 0 ∷ [])

@@ -25,18 +25,18 @@ pub fn wide_at(s: &[u8], at: usize) -> u64 {
 }
 
 // The number whose two's complement it is.
-pub fn signed_short(n: u16) -> i16 {
-    if n < 32768 {
-        return n as i16;
-    }
-    -1 - ((65535 - n) as i16)
-}
-
 pub fn signed_long(n: u32) -> i32 {
     if n < 2147483648 {
         return n as i32;
     }
     -1 - ((4294967295 - n) as i32)
+}
+
+pub fn signed_longest(n: u64) -> i64 {
+    if n < 9223372036854775808 {
+        return n as i64;
+    }
+    -1 - ((18446744073709551615 - n) as i64)
 }
 
 // The bytes from a place to another; none where there is no such part.

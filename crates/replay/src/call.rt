@@ -1,5 +1,6 @@
 // The calls of the C interface, in the order of include/bogslipper.h: a row for each, its name and what it takes.
-use crate::bytes::signed_short;
+use crate::bytes::signed_long;
+use crate::bytes::signed_longest;
 use crate::memory::has_bytes as opens_with;
 use exports::Said;
 
@@ -85,8 +86,12 @@ pub fn said(
             bytes,
         );
     }
-    if opens_with(name, b"arrival ") {
-        return exports::bog_arrival(long(n[0]), signed_short(short(n[1])));
+    if opens_with(name, b"arrivals ") {
+        return exports::bog_arrivals(long(n[0]));
+    }
+    if opens_with(name, b"arrivals_next ") {
+        let placed = n[0] == 1;
+        return exports::bog_arrivals_next(placed, signed_longest(n[1]), signed_long(long(n[2])));
     }
     Said {
         number: NONE,

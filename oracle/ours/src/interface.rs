@@ -145,9 +145,14 @@ pub fn twcc_write(
     }
 }
 
-// The arrival of a received entry.
+// Arrivals.
 
 #[inline]
-pub fn arrival(time: u32, delta: i16) -> Said {
-    unsafe { ffi::bog_arrival(time, delta) }
+pub fn arrivals(time: u32) -> Said {
+    unsafe { ffi::bog_arrivals(time) }
+}
+
+#[inline]
+pub fn arrivals_next(placed: bool, ticks: i64, word: i32) -> Said {
+    unsafe { ffi::bog_arrivals_next(placed, ticks, word) }
 }

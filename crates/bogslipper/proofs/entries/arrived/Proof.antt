@@ -1,14 +1,14 @@
 -- An index is tested before it is used.
 use Prim.Native.Nat.{_≤_, _-_}
 use borrow.Author.Needs.{needs}
-use Rattle.bogslipper.proofs.entries.entries.Statement.{statement}
-use Rattle.bogslipper.proofs.entries.entries.Tie as tie
+use Rattle.bogslipper.proofs.entries.arrived.Statement.{statement}
+use Rattle.bogslipper.proofs.entries.arrived.Tie as tie
 
 abbrev Inv-loop : tie.InvT-loop
-Inv-loop list time count number₀ i₀ number i = i ≤ count
+Inv-loop list count number₀ arrivals₀ i₀ number arrivals i = i ≤ count
 
 abbrev μ-loop : tie.MeasureT-loop
-μ-loop list time count number₀ i₀ number i = count - i
+μ-loop list count number₀ arrivals₀ i₀ number arrivals i = count - i
 
 slice-aggregate-write-all : tie.Need-slice-aggregate-write-all Inv-loop μ-loop
 slice-aggregate-write-all c = search needs
@@ -19,17 +19,20 @@ write-all-requires c κs = search needs
 loop-holds : tie.Need-loop-holds Inv-loop μ-loop
 loop-holds c = search needs
 
-mul-entry : tie.Need-mul-entry Inv-loop μ-loop
-mul-entry c = search needs
+mul-word : tie.Need-mul-word Inv-loop μ-loop
+mul-word c = search needs
 
-shared-slice-copy-out-entry : tie.Need-shared-slice-copy-out-entry Inv-loop μ-loop
-shared-slice-copy-out-entry c = search needs
+shared-slice-copy-out-word : tie.Need-shared-slice-copy-out-word Inv-loop μ-loop
+shared-slice-copy-out-word c = search needs
+
+next-requires : tie.Need-next-requires Inv-loop μ-loop
+next-requires c κs = search needs
 
 entry-requires : tie.Need-entry-requires Inv-loop μ-loop
 entry-requires c κs = search needs
 
-next-requires : tie.Need-next-requires Inv-loop μ-loop
-next-requires c κs = search needs
+next-requires-2 : tie.Need-next-requires-2 Inv-loop μ-loop
+next-requires-2 c κs = search needs
 
 add-i : tie.Need-add-i Inv-loop μ-loop
 add-i c = search needs
@@ -43,8 +46,8 @@ loop-again c = search needs
 returns : tie.Need-returns Inv-loop μ-loop
 returns c = search needs
 
-pub entries-spec : {M : Type 1} → statement M
-entries-spec =
+pub arrived-spec : {M : Type 1} → statement M
+arrived-spec =
     tie.close
     (tie.spec
     Inv-loop
@@ -52,10 +55,11 @@ entries-spec =
     slice-aggregate-write-all
     write-all-requires
     loop-holds
-    mul-entry
-    shared-slice-copy-out-entry
-    entry-requires
+    mul-word
+    shared-slice-copy-out-word
     next-requires
+    entry-requires
+    next-requires-2
     add-i
     loop-less
     loop-again
