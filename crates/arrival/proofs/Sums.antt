@@ -9,6 +9,7 @@ use mir.Syntax.{w16, w64}
 use mir.Val.{SFits, toZ, ofZ}
 use mir.ValLaws.{toZ-ofZ}
 use borrow.Author.Tests.{ltb-true, ltb-false}
+use Rattle.arrival.specs.Cursor.{exactEnd}
 
 -- of a sum and its two summands none lies farther from 0 than the others together
 pub record Near (sum a b : ℕ) : Type 0 where
@@ -44,7 +45,7 @@ pub widens : (d : ℤ) → SFits w16 d → SFits w64 d
 widens d fits = fits64 d (let n = delta-near d fits in omega arith)
 
 -- from far away a delta does not lead back
-pub stays-far : (t d : ℤ) → SFits w16 d → 18014398509481984 ≤ natAbs t → 9007199254740992 ≤ natAbs (t +ℤ d)
+pub stays-far : (t d : ℤ) → SFits w16 d → 18014398509481984 ≤ natAbs t → exactEnd ≤ natAbs (t +ℤ d)
 stays-far t d fits far = let n = near t d in let m = delta-near d fits in omega arith
 
 -- the machine's sum of a tick and a delta

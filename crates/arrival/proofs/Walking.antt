@@ -1,11 +1,11 @@
 -- Walking the cursor over a block's words gives the arrivals of the definition.
-use Prim.Native.Nat.{ℕ, suc, _+_, _*_, _≤_, _<_}
+use Prim.Native.Nat.{ℕ, _+_, _*_, _≤_, _<_}
 use mathlib.Core.List.{List, [], _∷_}
-use mathlib.Core.Path.{_≡_, refl, sym, ap, ap₂, _∙_}
+use mathlib.Core.Path.{_≡_, refl, sym, ap, _∙_}
 use mathlib.Core.Bool.{Bool, true, false, cond}
 use native.Mathlib.Omega.{arith}
 use borrow.Author.Tests.{ltb-false, lt-ltb}
-use lib.IntN.{ℤ, pos, natAbs, _+ℤ_}
+use lib.IntN.{ℤ, natAbs, _+ℤ_}
 use lib.ListN.{length}
 use Rattle.octets.proofs.Logic.{never}
 use Rattle.refusal.specs.Outcome.{gave, refuse}
@@ -15,9 +15,9 @@ use Rattle.twcc.proofs.Reading.{listed-few}
 use Rattle.twcc.specs.Status.{statusOf}
 use Rattle.twcc.specs.declared.Status.{Status}
 use Rattle.twcc.specs.declared.Status.the-variants.{Received, NotReceived, Truncated, Reserved, NoStatus}
-use Rattle.arrival.specs.Arrivals.{ticksOf, deltaOf, clear, readable, at, arrivalsBehind, arrivals}
+use Rattle.arrival.specs.Arrivals.{ticksOf, clear, at, arrivalsBehind, arrivals}
 use Rattle.arrival.specs.Overlay.{milliseconds, shownOf}
-use Rattle.arrival.specs.Cursor.{from, begun, exact, unplaced, nextBy, nextArrival, walked}
+use Rattle.arrival.specs.Cursor.{from, begun, exactEnd, exact, unplaced, nextBy, nextArrival, walked}
 use Rattle.arrival.specs.declared.Arrival.{Arrival}
 use Rattle.arrival.specs.declared.Arrival.the-variants.{Missing, Unreadable, Unplaced, At}
 use Rattle.arrival.specs.declared.Arrivals.{Arrivals}
@@ -40,7 +40,7 @@ walked-lost (w ∷ ws) = go (statusOf w) (walked-lost ws)
     go NoStatus rest = ap (_∷_ Unreadable) rest
 
 -- where no sum can leave the exact ticks
-walked-from : (t : ℤ) (ws : List ℤ) → natAbs t + 32768 * length ws < 9007199254740992 → walked (from t) ws ≡ arrivals t ws
+walked-from : (t : ℤ) (ws : List ℤ) → natAbs t + 32768 * length ws < exactEnd → walked (from t) ws ≡ arrivals t ws
 unfolding walked nextArrival arrivalsBehind
 walked-from t [] small = refl
 walked-from t (w ∷ ws) small = go (statusOf w) refl (λ u less. walked-from u ws less)
@@ -48,13 +48,13 @@ walked-from t (w ∷ ws) small = go (statusOf w) refl (λ u less. walked-from u 
     unread : (s : Status) → statusOf w ≡ s → clear s ≡ false → Unreadable ∷ walked Lost ws ≡ arrivals t (w ∷ ws)
     unread s is unclear = ap (_∷_ Unreadable) (walked-lost ws) ∙ sym (unreads t w ws (ap clear is ∙ unclear))
 
-    go : (s : Status) → statusOf w ≡ s → ((u : ℤ) → natAbs u + 32768 * length ws < 9007199254740992 → walked (from u) ws ≡ arrivals u ws)
+    go : (s : Status) → statusOf w ≡ s → ((u : ℤ) → natAbs u + 32768 * length ws < exactEnd → walked (from u) ws ≡ arrivals u ws)
         → nextBy (from t) s .arrival ∷ walked (nextBy (from t) s .next) ws ≡ arrivals t (w ∷ ws)
     go (Received d) is rest =
         let few : natAbs d ≤ 32768 = rw is at (delta-small w) in
         let n = near t d in
-        let less : natAbs (t +ℤ d) + 32768 * length ws < 9007199254740992 = omega arith in
-        rw (lt-ltb (natAbs (t +ℤ d)) 9007199254740992 (omega arith)) (ap (_∷_ (at (t +ℤ d))) (rest (t +ℤ d) less)) ∙ sym (arrives t w d ws is)
+        let less : natAbs (t +ℤ d) + 32768 * length ws < exactEnd = omega arith in
+        rw (lt-ltb (natAbs (t +ℤ d)) exactEnd (omega arith)) (ap (_∷_ (at (t +ℤ d))) (rest (t +ℤ d) less)) ∙ sym (arrives t w d ws is)
     go NotReceived is rest = ap (_∷_ Missing) (rest t (omega arith)) ∙ sym (misses t w ws is)
     go Truncated is rest = unread Truncated is refl
     go Reserved is rest = unread Reserved is refl
@@ -78,28 +78,24 @@ pub block-walks : (block : List ℕ) → referenceTime block ≤ latest → stat
 block-walks block fits count = let few = listed-few block in walked-from (ticksOf (referenceTime block)) (listed block) (omega arith)
 
 -- what the cursor places, a display shows
-tickOf : Arrival → ℤ
-tickOf (At tick) = tick .0
-tickOf Missing = pos 0
-tickOf Unreadable = pos 0
-tickOf Unplaced = pos 0
+abbrev pub Displayed : Arrival → Type 0
+Displayed (At tick) = shownOf (At tick) ≡ Arrived (milliseconds (tick .0))
+Displayed Missing = Unit
+Displayed Unreadable = Unit
+Displayed Unplaced = Unit
 
-pub placed-shown : (c : Arrivals) (w t : ℤ) → nextArrival c w .arrival ≡ at t → shownOf (at t) ≡ Arrived (milliseconds t)
-unfolding nextArrival shownOf tickOf
-placed-shown c w t is = go c (statusOf w) is
+pub placed-shown : (c : Arrivals) (w : ℤ) → Displayed (nextArrival c w .arrival)
+unfolding nextArrival shownOf
+placed-shown c w = go (statusOf w) c
   where
-    placed : (u : ℤ) (b : Bool) → exact u ≡ b → cond b (record { arrival = at u; next = from u }) unplaced .arrival ≡ at t → shownOf (at t) ≡ Arrived (milliseconds t)
-    placed u true holds same = rw (sym (ap exact (ap tickOf same)) ∙ holds) refl
-    placed u false fails same = never (cc)
+    placed : (t : ℤ) (b : Bool) → exact t ≡ b → Displayed (cond b (record { arrival = at t; next = from t }) unplaced .arrival)
+    placed t true holds = rw holds refl
+    placed t false fails = tt
 
-    go : (a : Arrivals) (s : Status) → nextBy a s .arrival ≡ at t → shownOf (at t) ≡ Arrived (milliseconds t)
-    go (From tick) (Received d) same = placed (tick .0 +ℤ d) (exact (tick .0 +ℤ d)) refl same
-    go (From tick) NotReceived same = never (cc)
-    go (From tick) Truncated same = never (cc)
-    go (From tick) Reserved same = never (cc)
-    go (From tick) NoStatus same = never (cc)
-    go Lost (Received d) same = never (cc)
-    go Lost NotReceived same = never (cc)
-    go Lost Truncated same = never (cc)
-    go Lost Reserved same = never (cc)
-    go Lost NoStatus same = never (cc)
+    go : (s : Status) (a : Arrivals) → Displayed (nextBy a s .arrival)
+    go (Received d) (From tick) = placed (tick .0 +ℤ d) (exact (tick .0 +ℤ d)) refl
+    go (Received d) Lost = tt
+    go NotReceived a = tt
+    go Truncated a = tt
+    go Reserved a = tt
+    go NoStatus a = tt

@@ -29,9 +29,13 @@ saidBegun (answer.No r) = no r
 unfoldable pub begun : ℕ → Outcome Arrivals
 begun time = cond (tooLate time) (refuse 10 (time ∷ [])) (gave (from (ticksOf time)))
 
--- whether 53 binary digits hold a tick, so that its quarter is a float exactly
+-- 2 ^ 53: 53 binary digits, as many as a 64-bit float has, hold what lies below it
+abbrev pub exactEnd : ℕ
+exactEnd = 9007199254740992
+
+-- whether a tick's quarter is a float exactly
 abbrev pub exact : ℤ → Bool
-exact tick = ltb (natAbs tick) 9007199254740992
+exact tick = ltb (natAbs tick) exactEnd
 
 abbrev pub unreadable : Entry
 unreadable = record { arrival = Unreadable; next = Lost }

@@ -18,6 +18,10 @@ exponentWeight = 4503599627370496
 abbrev pub signWeight : ℕ
 signWeight = 9223372036854775808
 
+-- the bits of infinity: those of any other number lie below, those of a NaN above
+abbrev pub infinity : ℕ
+infinity = 9218868437227405312
+
 -- the place of a number's leading binary digit: 2 to this power is at most the number, and twice that is more
 abbrev pub leading : ℕ → ℕ
 leading m = 63 - leadingZeros 64 m

@@ -7,15 +7,13 @@ use refusal::Refusal;
 use twcc::LATEST_TIME;
 use twcc::Status;
 ghost use mathlib.Core.Path.{_≡_};
-ghost use Rattle.octets.specs.Signed.{bits64};
 ghost use lib.IntN.{_+ℤ_};
+ghost use Rattle.octets.specs.Signed.{bits64};
 ghost use Rattle.arrival.specs.Cursor.{saidBegun, begun, unplaced, entryAt, moved, nextArrival};
 ghost use Rattle.arrival.specs.Overlay.{shownAt, shownOf};
 
-// From so far no delta leads to a tick whose milliseconds are exact.
-const FAR: u64 = 18014398509481984;
-
-// When an entry's packet arrived, as far as its block says.
+// When an entry's packet arrived: it did not; the entry can't be read; it did, but stands behind an entry that can't be read, so
+// that nobody can say when; or at a tick.
 pub enum Arrival {
     Missing,
     Unreadable,
@@ -23,7 +21,7 @@ pub enum Arrival {
     At(Tick),
 }
 
-// The same for a display, in milliseconds.
+// The same for a display, with milliseconds for ticks.
 pub enum Overlay {
     Missing,
     Unreadable,
@@ -90,6 +88,9 @@ impl Arrivals {
     }
 }
 
+// 2^54: from as far as this no delta leads back to a tick whose milliseconds are exact.
+const FAR: u64 = 18014398509481984;
+
 // The arrival so long after a tick, where its milliseconds are exact.
 fn later(tick: Tick, delta: i16) -> Entry
     ensures { λ r. ⌜ r ≡ entryAt (tick .0 +ℤ delta) ⌝ }
@@ -99,7 +100,7 @@ fn later(tick: Tick, delta: i16) -> Entry
         return unplaced();
     }
     let at = from + (delta as i64);
-    if millis::EXACT <= millis::size(at) {
+    if millis::EXACT_END <= millis::size(at) {
         return unplaced();
     }
     Entry {
@@ -134,7 +135,7 @@ impl Arrival {
 fn at(tick: i64) -> Overlay
     ensures { λ r. ⌜ r ≡ shownAt tick ⌝ }
 {
-    if millis::EXACT <= millis::size(tick) {
+    if millis::EXACT_END <= millis::size(tick) {
         return Overlay::Unplaced;
     }
     Overlay::Arrived(millis::milliseconds(tick))

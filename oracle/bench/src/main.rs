@@ -1,5 +1,6 @@
 //! Measures our library over its C interface beside the Rust crate, row by row, in one run.
 
+mod arrival;
 mod compound;
 mod nack;
 mod row;
@@ -18,6 +19,7 @@ const PARTS: &[Part] = &[
     ("nack", nack::rows),
     ("twcc_read", twcc_read::rows),
     ("twcc_write", twcc_write::rows),
+    ("arrival", arrival::rows),
 ];
 
 const HELP: &str = "\

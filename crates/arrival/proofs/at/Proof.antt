@@ -5,6 +5,7 @@ use borrow.Author.Tests.{lt-ltb, le-ltb}
 use lib.IntN.{natAbs}
 use mir.Syntax.{w64}
 use mir.ValLaws.{toZ-ofZ}
+use Rattle.arrival.specs.Cursor.{exactEnd}
 use Rattle.arrival.specs.Overlay.{milliseconds}
 use Rattle.arrival.specs.declared.Overlay.the-variants.{Arrived}
 use borrow.Author.Needs.{needs}
@@ -21,7 +22,7 @@ returns : tie.Need-returns
 returns c = simp (le-ltb _ _ (rw (sized (c .before)) at (c .if1 .taken)))
 
 milliseconds-requires : tie.Need-milliseconds-requires
-milliseconds-requires c κs = subst (λ (n : ℕ). n < 9007199254740992) (c .before .size .ensures) (c .if1 .left)
+milliseconds-requires c κs = subst (λ (n : ℕ). n < exactEnd) (c .before .size .ensures) (c .if1 .left)
 
 returns-2 : tie.Need-returns-2
 returns-2 c =

@@ -1,6 +1,6 @@
 -- By the cases of the answer.
-use mathlib.Core.Path.{_≡_, sym, ap, _∙_}
-use Rattle.arrival.specs.Cursor.{saidBegun, begun}
+use mathlib.Core.Path.{sym, ap, _∙_}
+use Rattle.arrival.specs.Cursor.{saidBegun}
 use Rattle.exports.specs.Says.{saidOf, started}
 use borrow.Author.Needs.{needs}
 use Rattle.exports.proofs.bog_arrivals.Statement.{statement}

@@ -1,5 +1,5 @@
 -- By whether the caller's cursor is placed.
-use mathlib.Core.Path.{_≡_, sym, ap, ap₂, _∙_}
+use mathlib.Core.Path.{sym, ap, ap₂, _∙_}
 use mathlib.Core.Bool.{Bool}
 use mir.Syntax.{w32, w64}
 use mir.ValLaws.{toZ-ofZ}

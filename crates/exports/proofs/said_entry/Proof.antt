@@ -1,5 +1,5 @@
 -- By the case that is shown.
-use mathlib.Core.Path.{_≡_, sym, ap, _∙_, subst}
+use mathlib.Core.Path.{_≡_, sym, _∙_, subst}
 use Rattle.arrival.specs.Overlay.{shownOf}
 use Rattle.arrival.specs.declared.Overlay.{Overlay}
 use Rattle.arrival.specs.declared.Overlay.the-variants.{Missing, Unreadable, Unplaced, Arrived}

@@ -1,10 +1,8 @@
 -- By the cases of the status.
 use mathlib.Core.List.{[], _∷_}
 use mathlib.Core.Path.{_≡_, refl, sym, ap, _∙_}
-use lib.IntN.{ℤ}
 use denote.Enum.Declared.{tagOf}
 use mir.Syntax.{w16, w32}
-use mir.Val.{SFits}
 use mir.ValLaws.{toZ-ofZ}
 use types.Run.{OneOf, miss}
 use Rattle.twcc.specs.Status.{statusOf}

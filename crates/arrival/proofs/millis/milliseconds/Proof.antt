@@ -1,5 +1,5 @@
 -- By the sign.
-use Prim.Native.Nat.{ℕ, _+_, _<_}
+use Prim.Native.Nat.{ℕ, _+_}
 use mathlib.Core.Path.{_≡_, sym, ap, _∙_, subst}
 use mathlib.Core.Bool.{Bool, not}
 use lib.Dec.{T}
@@ -36,13 +36,13 @@ quarters-requires c κs = rw (sized c) (c .before .pre)
 add-result : tie.Need-add-result
 add-result c = search needs
 
-float-from-bits-result : tie.Need-float-from-bits-result
-float-from-bits-result c = subst (λ (b : Bool). T (not b)) (sym (minus _ (c .before .quarters .ensures .1))) tt
-
 returns : tie.Need-returns
 returns c =
     ap (λ (n : ℕ). ofBits binary64 (signWeight + n)) (made (c .before) ∙ ap (λ (z : ℤ). quarters (natAbs z)) (below c .is))
     ∙ sym (ap (λ (z : ℤ). ofBits binary64 (millisecondBits z)) (below c .is))
+
+float-from-bits-result : tie.Need-float-from-bits-result
+float-from-bits-result c = subst (λ (b : Bool). T (not b)) (sym (minus _ (c .before .quarters .ensures .1))) tt
 
 float-from-bits-result-2 : tie.Need-float-from-bits-result-2
 float-from-bits-result-2 c = subst (λ (b : Bool). T (not b)) (sym (plain _ (c .before .quarters .ensures .1))) tt

@@ -1,8 +1,7 @@
 -- The leading digit stands at 52 at most, so that moving it there loses none.
-use Prim.Native.Nat.{_<_}
-use mathlib.Core.Path.{_≡_, sym, ap, _∙_, subst}
+use Prim.Native.Nat.{ℕ, _<_}
+use mathlib.Core.Path.{_≡_, sym, ap}
 use native.Mathlib.Omega.{arith}
-use Prim.Native.Nat.{ℕ}
 use Rattle.arrival.specs.Overlay.{quarters}
 use Rattle.arrival.proofs.Quarters.{Digits, digits, Made, made}
 use borrow.Author.Needs.{needs}
