@@ -251,14 +251,8 @@ pub fn write(
 /// use bogslipper::{Refusal, Twcc, TwccArrival};
 ///
 /// let twcc = Twcc::parse(&[0, 5, 0, 2, 0, 0, 1, 0, 0xD4, 0x00, 4, 2])?;
-/// let milliseconds: Vec<f64> = twcc
-///     .arrivals()
-///     .filter_map(|(_, arrival)| match arrival {
-///         TwccArrival::Arrived { milliseconds, .. } => Some(milliseconds),
-///         _ => None,
-///     })
-///     .collect();
-/// assert_eq!(milliseconds, [65.0, 65.5]);
+/// let arrivals: Vec<(u16, TwccArrival)> = twcc.arrivals().collect();
+/// assert_eq!(arrivals[1], (6, TwccArrival::Arrived { ticks: 262, milliseconds: 65.5 }));
 /// # Ok::<(), Refusal>(())
 /// ```
 #[derive(Clone, Copy, Debug, PartialEq)]
@@ -276,6 +270,41 @@ pub enum TwccArrival {
         /// The same in milliseconds: ticks / 4, exactly. For a display.
         milliseconds: f64,
     },
+}
+
+impl TwccArrival {
+    /// When the packet arrived, in ticks of 250 µs; `None` where nobody can say, or where it did not.
+    ///
+    /// ```
+    /// use bogslipper::twcc::{arrivals, NOT_RECEIVED};
+    /// use bogslipper::{Refusal, TwccArrival};
+    ///
+    /// assert!(arrivals(1, [4, NOT_RECEIVED])?.map(TwccArrival::ticks).eq([Some(260), None]));
+    /// # Ok::<(), Refusal>(())
+    /// ```
+    pub fn ticks(self) -> Option<i64> {
+        match self {
+            TwccArrival::Arrived { ticks, .. } => Some(ticks),
+            _ => None,
+        }
+    }
+
+    /// When the packet arrived, in milliseconds; `None` where nobody can say, or where it did not.
+    ///
+    /// ```
+    /// use bogslipper::twcc::{arrivals, RESERVED};
+    /// use bogslipper::{Refusal, TwccArrival};
+    ///
+    /// let milliseconds = arrivals(1, [4, RESERVED, 4])?.map(TwccArrival::milliseconds);
+    /// assert!(milliseconds.eq([Some(65.0), None, None]));
+    /// # Ok::<(), Refusal>(())
+    /// ```
+    pub fn milliseconds(self) -> Option<f64> {
+        match self {
+            TwccArrival::Arrived { milliseconds, .. } => Some(milliseconds),
+            _ => None,
+        }
+    }
 }
 
 /// The arrivals of a block's status words, one for each; [`arrivals`] makes it.

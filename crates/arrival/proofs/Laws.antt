@@ -1,5 +1,5 @@
 -- Laws of arrivals: one word more, and lists laid end to end.
-use Prim.Native.Nat.{suc, _≤_}
+use Prim.Native.Nat.{ℕ, zero, suc, _≤_, _<_}
 use mathlib.Core.List.{List, [], _∷_, _++_, map, append-assoc, append-nil}
 use mathlib.Core.Path.{_≡_, refl, sym, ap, ap₂, _∙_}
 use mathlib.Core.Bool.{Bool, true, false, cond, _&&_, and-assoc, true≢false}
@@ -7,9 +7,9 @@ use native.Mathlib.Omega.{arith}
 use borrow.Author.Tests.{ltb-true, ltb-false, lt-ltb, eq-eqb}
 use lib.Dec.{ltb, eqb}
 use lib.IntN.{ℤ, pos, negsuc, natAbs, _+ℤ_, +ℤ-assoc, +ℤ-idl, +ℤ-idr}
-use lib.ListN.{length}
+use lib.ListN.{length, getD, take}
 use Rattle.octets.proofs.Logic.{by-test}
-use Rattle.twcc.specs.Words.{half, Valid, AllValid}
+use Rattle.twcc.specs.Words.{half, notReceived, Valid, AllValid}
 use Rattle.twcc.specs.Status.{statusOf}
 use Rattle.twcc.specs.declared.Status.{Status}
 use Rattle.twcc.specs.declared.Status.the-variants.{Received, NotReceived, Truncated, Reserved, NoStatus}
@@ -130,6 +130,20 @@ pub arrivals-count : (start : ℤ) (before ws : List ℤ) → length (arrivalsBe
 unfolding arrivalsBehind
 arrivals-count start before [] = refl
 arrivals-count start before (w ∷ ws) = ap suc (arrivals-count start (before ++ (w ∷ [])) ws)
+
+-- the entry at a place, from the words before it
+at-behind : (start : ℤ) (before ws : List ℤ) (place : ℕ) → place < length ws
+    → getD (arrivalsBehind start before ws) place Missing ≡ arrivalBehind start (before ++ take place ws) (statusOf (getD ws place notReceived))
+unfolding arrivalsBehind
+at-behind start before [] place inside = absurd (omega arith)
+at-behind start before (w ∷ ws) zero inside = ap (λ (l : List ℤ). arrivalBehind start l (statusOf w)) (sym (append-nil before))
+at-behind start before (w ∷ ws) (suc place) inside =
+    at-behind start (before ++ (w ∷ [])) ws place (omega arith)
+    ∙ ap (λ (l : List ℤ). arrivalBehind start l (statusOf (getD ws place notReceived))) (append-assoc before (w ∷ []) (take place ws))
+
+pub arrival-at : (start : ℤ) (ws : List ℤ) (place : ℕ) → place < length ws
+    → getD (arrivals start ws) place Missing ≡ arrivalBehind start (take place ws) (statusOf (getD ws place notReceived))
+arrival-at start ws place inside = at-behind start [] ws place inside
 
 -- ---- what a word says
 
