@@ -64,7 +64,7 @@ fn four(a: u64, b: u64, c: u64, d: u64) -> Said
 fn two(a: u64, b: u64) -> Said
     ensures { λ s. ⌜ s ≡ says 0 (pos a ∷ pos b ∷ []) ⌝ }
 {
-    four(a, b, 0, 0)
+    five(a, b, 0, 0, 0)
 }
 
 fn one(a: u64) -> Said
