@@ -148,14 +148,14 @@ arrival-at start ws place inside = at-behind start [] ws place inside
 -- ---- what a word says
 
 -- a delta has 16 bits
-pub delta-small : (w : ℤ) → natAbs (deltaOf (statusOf w)) ≤ 32768
+pub delta-small : (w : ℤ) → natAbs (deltaOf (statusOf w)) ≤ half
 unfolding statusOf
 delta-small (pos n) =
     by-test (ltb n half)
     (λ e. let less = ltb-true n half e in rw e (omega arith))
     (λ e. rw e (high (eqb n half) (eqb n 32769) (eqb n 32770)))
   where
-    high : (a b c : Bool) → natAbs (deltaOf (cond a NotReceived (cond b Truncated (cond c Reserved NoStatus)))) ≤ 32768
+    high : (a b c : Bool) → natAbs (deltaOf (cond a NotReceived (cond b Truncated (cond c Reserved NoStatus)))) ≤ half
     high true b c = omega arith
     high false true c = omega arith
     high false false true = omega arith

@@ -1,5 +1,5 @@
 -- How far sums lie from 0, and what the machine makes of them in 64 bits.
-use Prim.Native.Nat.{ℕ, suc, _+_, _-_, _≤_, _<_}
+use Prim.Native.Nat.{ℕ, suc, _+_, _-_, _*_, _≤_, _<_}
 use mathlib.Core.Path.{_≡_, refl, ap, ap₂, _∙_}
 use mathlib.Core.Bool.{Bool, true, false, cond}
 use native.Mathlib.Omega.{arith}
@@ -9,6 +9,7 @@ use mir.Syntax.{w16, w64}
 use mir.Val.{SFits, toZ, ofZ}
 use mir.ValLaws.{toZ-ofZ}
 use borrow.Author.Tests.{ltb-true, ltb-false}
+use Rattle.twcc.specs.Words.{half}
 use Rattle.arrival.specs.Cursor.{exactEnd}
 
 -- of a sum and its two summands none lies farther from 0 than the others together
@@ -33,7 +34,7 @@ near (pos a) (negsuc b) = apart a (suc b)
 near (negsuc a) (pos b) = swapped (natAbs (subℕ b (suc a))) b (suc a) (apart b (suc a))
 near (negsuc a) (negsuc b) = record { whole = omega arith; first = omega arith; second = omega arith }
 
-delta-near : (d : ℤ) → SFits w16 d → natAbs d ≤ 32768
+delta-near : (d : ℤ) → SFits w16 d → natAbs d ≤ half
 delta-near (pos n) fits = omega (arith, fits .sfits)
 delta-near (negsuc n) fits = omega (arith, fits .sfits)
 
@@ -45,7 +46,7 @@ pub widens : (d : ℤ) → SFits w16 d → SFits w64 d
 widens d fits = fits64 d (let n = delta-near d fits in omega arith)
 
 -- from far away a delta does not lead back
-pub stays-far : (t d : ℤ) → SFits w16 d → 18014398509481984 ≤ natAbs t → exactEnd ≤ natAbs (t +ℤ d)
+pub stays-far : (t d : ℤ) → SFits w16 d → 2 * exactEnd ≤ natAbs t → exactEnd ≤ natAbs (t +ℤ d)
 stays-far t d fits far = let n = near t d in let m = delta-near d fits in omega arith
 
 -- the machine's sum of a tick and a delta
@@ -57,7 +58,7 @@ pub record Summed (t d : ℤ) : Type 0 where
   pub fits : SFits w64 (machine t d)
   pub back : toZ w64 (ofZ w64 (machine t d)) ≡ t +ℤ d
 
-pub summed : (t d : ℤ) → SFits w64 t → SFits w16 d → natAbs t < 18014398509481984 → Summed t d
+pub summed : (t d : ℤ) → SFits w64 t → SFits w16 d → natAbs t < 2 * exactEnd → Summed t d
 summed t d t-fits d-fits small =
     let wide : toZ w64 (ofZ w64 (toZ w16 (ofZ w16 d))) ≡ d = ap (λ (z : ℤ). toZ w64 (ofZ w64 z)) (toZ-ofZ w16 d d-fits) ∙ toZ-ofZ w64 d (widens d d-fits) in
     let is : machine t d ≡ t +ℤ d = ap₂ _+ℤ_ (toZ-ofZ w64 t t-fits) wide in

@@ -24,7 +24,7 @@ signed false n = n
 signed true n = signWeight + n
 
 -- the fields of a pattern: sign, exponent and digits
-fields-of : (s : Bool) (n e y : ℕ) → e < 1100 → exponentWeight ≤ y
+fields-of : (s : Bool) (n e y : ℕ) → e < 2046 → exponentWeight ≤ y
     → leb signWeight n ≡ s → n % signWeight / exponentWeight ≡ suc e → n % exponentWeight ≡ y - exponentWeight → ofBits binary64 n ≡ odd 53 s y e 1074
 unfolding ofBits ofFields
 fields-of s n e y short low sign exponent rest =
@@ -32,7 +32,7 @@ fields-of s n e y short low sign exponent rest =
     let whole : exponentWeight + (y - exponentWeight) ≡ y = omega arith in
     simp (sign, exponent, rest, finite, whole)
 
-fields : (s : Bool) (e y : ℕ) → e < 1100 → exponentWeight ≤ y → y < exactEnd
+fields : (s : Bool) (e y : ℕ) → e < 2046 → exponentWeight ≤ y → y < exactEnd
     → ofBits binary64 (signed s (suc e * exponentWeight + (y - exponentWeight))) ≡ odd 53 s y e 1074
 fields false e y short low high =
     let n = suc e * exponentWeight + (y - exponentWeight) in

@@ -10,6 +10,7 @@ use lib.ListN.{length}
 use Rattle.octets.proofs.Logic.{never}
 use Rattle.refusal.specs.Outcome.{gave, refuse}
 use Rattle.twcc.specs.Time.{latest, tooLate}
+use Rattle.twcc.specs.Words.{half}
 use Rattle.twcc.specs.Block.{statusCount, referenceTime, listed}
 use Rattle.twcc.proofs.Reading.{listed-few}
 use Rattle.twcc.specs.Status.{statusOf}
@@ -40,7 +41,7 @@ walked-lost (w ∷ ws) = go (statusOf w) (walked-lost ws)
     go NoStatus rest = ap (_∷_ Unreadable) rest
 
 -- where no sum can leave the exact ticks
-walked-from : (t : ℤ) (ws : List ℤ) → natAbs t + 32768 * length ws < exactEnd → walked (from t) ws ≡ arrivals t ws
+walked-from : (t : ℤ) (ws : List ℤ) → natAbs t + half * length ws < exactEnd → walked (from t) ws ≡ arrivals t ws
 unfolding walked nextArrival arrivalsBehind
 walked-from t [] small = refl
 walked-from t (w ∷ ws) small = go (statusOf w) refl (λ u less. walked-from u ws less)
@@ -48,19 +49,19 @@ walked-from t (w ∷ ws) small = go (statusOf w) refl (λ u less. walked-from u 
     unread : (s : Status) → statusOf w ≡ s → clear s ≡ false → Unreadable ∷ walked Lost ws ≡ arrivals t (w ∷ ws)
     unread s is unclear = ap (_∷_ Unreadable) (walked-lost ws) ∙ sym (unreads t w ws (ap clear is ∙ unclear))
 
-    go : (s : Status) → statusOf w ≡ s → ((u : ℤ) → natAbs u + 32768 * length ws < exactEnd → walked (from u) ws ≡ arrivals u ws)
+    go : (s : Status) → statusOf w ≡ s → ((u : ℤ) → natAbs u + half * length ws < exactEnd → walked (from u) ws ≡ arrivals u ws)
         → nextBy (from t) s .arrival ∷ walked (nextBy (from t) s .next) ws ≡ arrivals t (w ∷ ws)
     go (Received d) is rest =
-        let few : natAbs d ≤ 32768 = rw is at (delta-small w) in
+        let few : natAbs d ≤ half = rw is at (delta-small w) in
         let n = near t d in
-        let less : natAbs (t +ℤ d) + 32768 * length ws < exactEnd = omega arith in
+        let less : natAbs (t +ℤ d) + half * length ws < exactEnd = omega arith in
         rw (lt-ltb (natAbs (t +ℤ d)) exactEnd (omega arith)) (ap (_∷_ (at (t +ℤ d))) (rest (t +ℤ d) less)) ∙ sym (arrives t w d ws is)
     go NotReceived is rest = ap (_∷_ Missing) (rest t (omega arith)) ∙ sym (misses t w ws is)
     go Truncated is rest = unread Truncated is refl
     go Reserved is rest = unread Reserved is refl
     go NoStatus is rest = unread NoStatus is refl
 
--- from a reference time over as many words as anyone will have
+-- from any reference time that fits, over up to 2 ^ 37 words
 pub walks : (time : ℕ) (c : Arrivals) (words : List ℤ) → begun time ≡ gave c → length words ≤ 137438953472 → walked c words ≡ arrivals (ticksOf time) words
 unfolding begun
 walks time c words begins few = go (tooLate time) refl begins

@@ -15,7 +15,7 @@ use Rattle.arrival.specs.declared.Arrival.the-variants.{Missing, Unreada
 abbrev pub ticksOf : ℕ → ℤ
 ticksOf time = pos (time * 256)
 
--- the delta that a status has, 0 where it has none
+-- the delta that a status has, 0 where it has none; behind one that can't be read nobody asks for a sum
 abbrev pub deltaOf : Status → ℤ
 deltaOf (Received delta) = delta
 deltaOf NotReceived = pos 0

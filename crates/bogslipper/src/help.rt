@@ -36,6 +36,14 @@ pub fn write(fd: i32) {
     );
     io::write_all(
         fd,
+        b"A tick is 250 microseconds, and a delta counts from the arrival before it. unplaced is a\n",
+    );
+    io::write_all(
+        fd,
+        b"packet received behind an entry that can't be read: nobody knows when.\n\n",
+    );
+    io::write_all(
+        fd,
         b"Exit status: 0 answered, 1 refused, 2 trouble with the words or the file.\n",
     );
 }
