@@ -178,6 +178,8 @@ bog_said bog_twcc_write(uint16_t base, uint32_t time, uint8_t feedback, const in
  * ticks; each block begins afresh:
  *
  *     bog_said at = bog_arrivals(time);
+ *     if (at.number != 0)
+ *         return refused(at.number, at.values);
  *     bool placed = at.values[0];
  *     int64_t ticks = (int64_t)at.values[1];
  *     for (k = 0; k < listed; k++) {
