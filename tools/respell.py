@@ -108,7 +108,7 @@ def mapping():
     taken = {}
     for name in sorted(names, key=lambda n: (n not in specified(), "-" in n, n)):
         new = words.get(name, name)
-        if new in taken:
+        if new in taken and name in words:
             words[name] = new = new + "_lem"
         taken[new] = name
     return {old: new for old, new in words.items() if old != new}

@@ -41,10 +41,10 @@ walked_lost (w ∷ ws) = go (status_of w) (walked_lost ws)
     go NoStatus rest = ap (◌∷◌ Unreadable) rest
 
 -- where no sum can leave the exact ticks
-walked_from_lem : (t : ℤ) (ws : List ℤ) → nat_abs t + half * length ws < exact_end → walked (from t) ws ≡ arrivals t ws
+walked_from : (t : ℤ) (ws : List ℤ) → nat_abs t + half * length ws < exact_end → walked (from t) ws ≡ arrivals t ws
 unfolding walked next_arrival arrivals_behind
-walked_from_lem t [] small = refl
-walked_from_lem t (w ∷ ws) small = go (status_of w) refl (λ u less. walked_from_lem u ws less)
+walked_from t [] small = refl
+walked_from t (w ∷ ws) small = go (status_of w) refl (λ u less. walked_from u ws less)
   where
     unread : (s : Status) → status_of w ≡ s → clear s ≡ false → Unreadable ∷ walked Lost ws ≡ arrivals t (w ∷ ws)
     unread s is unclear = ap (◌∷◌ Unreadable) (walked_lost ws) ∙ sym (unreads t w ws (ap clear is ∙ unclear))
@@ -71,12 +71,12 @@ walks time c words begins few = go (too_late time) refl begins
     go false soon begins =
         let most : time ≤ latest = ltb-false latest time soon in
         let is : from (ticks_of time) ≡ c = cc in
-        ap (λ (a : Arrivals). walked a words) (sym is) ∙ walked_from_lem (ticks_of time) words (omega arith)
+        ap (λ (a : Arrivals). walked a words) (sym is) ∙ walked_from (ticks_of time) words (omega arith)
 
 -- a block's own words and time: the cursor begins, and walks them
 pub block_walks : (block : List ℕ) → reference_time block ≤ latest → status_count block < 65536
     → walked (from (ticks_of (reference_time block))) (listed block) ≡ arrivals (ticks_of (reference_time block)) (listed block)
-block_walks block fits count = let few = listed-few block in walked_from_lem (ticks_of (reference_time block)) (listed block) (omega arith)
+block_walks block fits count = let few = listed-few block in walked_from (ticks_of (reference_time block)) (listed block) (omega arith)
 
 -- what the cursor places, a display shows
 abbrev pub Displayed : Arrival → Type 0

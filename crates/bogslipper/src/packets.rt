@@ -50,7 +50,7 @@ fn verdict(bytes: &[u8], place: Place) -> bool {
 fn first_padded(bytes: &[u8]) -> usize {
     let mut at = 0;
     while at < bytes.len() {
-        let walked = compound::walk_step_lem(bytes, at);
+        let walked = compound::walk_step(bytes, at);
         let found = walked.found;
         let next = walked.next;
         if padded(found) {
@@ -154,7 +154,7 @@ fn heading() {
 fn walk(bytes: &[u8]) -> bool {
     let mut at = 0;
     while at < bytes.len() {
-        let walked = compound::walk_step_lem(bytes, at);
+        let walked = compound::walk_step(bytes, at);
         let found = walked.found;
         let next = walked.next;
         match found {

@@ -240,7 +240,7 @@ pub fn record_of(packet: &[u8]) -> Alone
 }
 
 // The step of the walk, from any offset.
-pub fn walk_step_lem(bytes: &[u8], at: usize) -> Walked
+pub fn walk_step(bytes: &[u8], at: usize) -> Walked
     ensures { said_walked result ≡ walk_step bytes.now at }
 {
     let end = bytes.len();
@@ -293,7 +293,7 @@ pub fn walk_step_lem(bytes: &[u8], at: usize) -> Walked
 pub fn walk_part(bytes: &[u8], at: usize) -> &[u8]
     ensures { HandsBack bytes.entry at result }
 {
-    let walked = walk_step_lem(bytes, at);
+    let walked = walk_step(bytes, at);
     let found = walked.found;
     let next = walked.next;
     match found {
@@ -307,6 +307,6 @@ pub fn walk_part(bytes: &[u8], at: usize) -> &[u8]
 pub fn walk_next(bytes: &[u8], at: usize) -> usize
     ensures { result ≡ walk_next bytes.now at }
 {
-    let walked = walk_step_lem(bytes, at);
+    let walked = walk_step(bytes, at);
     walked.next
 }

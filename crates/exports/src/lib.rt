@@ -174,7 +174,7 @@ pub extern "C" fn bog_walk_step(bytes: &[u8], offset: u64) -> Said
     ensures { Answers (walk (walk_step bytes.now offset)) result }
 {
     let at = offset as usize;
-    let walked = compound::walk_step_lem(bytes, at);
+    let walked = compound::walk_step(bytes, at);
     let next = walked.next;
     let found = walked.found;
     match found {

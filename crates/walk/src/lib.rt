@@ -21,7 +21,7 @@ pub fn new<'a>(bytes: &'a [u8]) -> Compound<'a>
 pub fn step<'a>(c: Compound<'a>) -> Walked
     ensures { Steps c.entry result }
 {
-    compound::walk_step_lem(c.bytes, c.offset)
+    compound::walk_step(c.bytes, c.offset)
 }
 
 // The packet at the walk's offset, as a part of the lent bytes; empty where the step finds none.

@@ -10,7 +10,7 @@ walk-step-requires c κs = search rules
 
 returns : tie.Need-returns
 unfolding walk_next
-returns c = ap next_of c.walk_step_lem.ensures
+returns c = ap next_of c.walk_step.ensures
 
 pub walk-next-spec : {M : Type 1} → statement M
 walk-next-spec = tie.close (tie.spec walk-step-requires returns)

@@ -11,9 +11,9 @@ use Rattle.compound.proofs.walk_part.Statement.{statement}
 use Rattle.compound.proofs.walk_part.Tie as tie
 
 -- what the step said, by what it found
-as-found : {f : Found} (c : tie.After-walk-step) → c.walk_step_lem.result.found ≡ f
-    → walk_step c.before.before.args.bytes.now c.before.before.args.at ≡ step (said_found f) c.walk_step_lem.result.next
-as-found c e = sym c.walk_step_lem.ensures ∙ ap (λ (f : Found). step (said_found f) c.walk_step_lem.result.next) e
+as-found : {f : Found} (c : tie.After-walk-step) → c.walk_step.result.found ≡ f
+    → walk_step c.before.before.args.bytes.now c.before.before.args.at ≡ step (said_found f) c.walk_step.result.next
+as-found c e = sym c.walk_step.ensures ∙ ap (λ (f : Found). step (said_found f) c.walk_step.result.next) e
 
 walk-step-requires : tie.Need-walk-step-requires
 walk-step-requires c κs = search rules
@@ -22,7 +22,7 @@ enum_told : tie.Need-enum-told
 enum_told c = search rules
 
 -- the packet that the step found
-found : (c : tie.After-enum-told) → Handed c.before.before.before.before.args.bytes.now c.before.before.before.before.args.at c.before.before.walk_step_lem.result.next c.enum_told.given.0.0
+found : (c : tie.After-enum-told) → Handed c.before.before.before.before.args.bytes.now c.before.before.before.before.args.at c.before.before.walk_step.result.next c.enum_told.given.0.0
 found c = walk-packet _ _ _ _ (as-found c.before.before c.enum_told.given.1)
 
 sub-result : tie.Need-overflow-sub-result

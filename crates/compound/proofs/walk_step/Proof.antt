@@ -3,8 +3,8 @@ use mathlib.Core.Path.{sym, ◌∙◌}
 use native.Mathlib.Omega.{arith}
 use Rattle.compound.proofs.Laws.{walk-over, walk-short, walk-past, walk-other, walk-misfits, walk-fits}
 use borrow.Author.Rules.{rules}
-use Rattle.compound.proofs.walk_step_lem.Statement.{statement}
-use Rattle.compound.proofs.walk_step_lem.Tie as tie
+use Rattle.compound.proofs.walk_step.Statement.{statement}
+use Rattle.compound.proofs.walk_step.Tie as tie
 
 returns : tie.Need-returns
 returns c = sym (walk-over _ _ c.if1.true)

@@ -9,9 +9,9 @@ use Rattle.exports.proofs.bog_walk_step.Statement.{statement}
 use Rattle.exports.proofs.bog_walk_step.Tie as tie
 
 -- what the step said, by what it found
-as-found : {f : Found} (c : tie.After-walk-step) → c.walk_step_lem.result.found ≡ f
-    → walk_step c.before.before.args.bytes.now c.before.before.args.offset ≡ step (said_found f) c.walk_step_lem.result.next
-as-found c e = sym c.walk_step_lem.ensures ∙ ap (λ (f : Found). step (said_found f) c.walk_step_lem.result.next) e
+as-found : {f : Found} (c : tie.After-walk-step) → c.walk_step.result.found ≡ f
+    → walk_step c.before.before.args.bytes.now c.before.before.args.offset ≡ step (said_found f) c.walk_step.result.next
+as-found c e = sym c.walk_step.ensures ∙ ap (λ (f : Found). step (said_found f) c.walk_step.result.next) e
 
 walk-step-requires : tie.Need-walk-step-requires
 walk-step-requires c κs = search rules

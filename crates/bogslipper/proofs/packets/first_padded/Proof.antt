@@ -22,8 +22,8 @@ padded-requires c κs = search rules
 returns : tie.Need-returns invariant-loop decreases-loop
 returns c = search rules
 
-moved : (c : tie.Else1 invariant-loop decreases-loop) → Moves c.before.before.before.before.before.before.args.bytes.now c.before.before.before.before.loop.at c.before.before.walk_step_lem.result.next
-moved c = let w = c.before.before.walk_step_lem in answer_moves _ _ w.result w.ensures (omega arith)
+moved : (c : tie.Else1 invariant-loop decreases-loop) → Moves c.before.before.before.before.before.before.args.bytes.now c.before.before.before.before.loop.at c.before.before.walk_step.result.next
+moved c = let w = c.before.before.walk_step in answer_moves _ _ w.result w.ensures (omega arith)
 
 loop-less : tie.Need-loop-smaller invariant-loop decreases-loop
 loop-less c = let m = moved c in omega arith

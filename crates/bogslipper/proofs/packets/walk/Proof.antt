@@ -40,8 +40,8 @@ stopped-requires c κs = search rules
 returns-2 : tie.Need-returns-2 invariant-loop decreases-loop
 returns-2 c = search rules
 
-moved : (c : tie.After-packet invariant-loop decreases-loop) → Moves c.before.before.before.before.before.before.before.before.before.args.bytes.now c.before.before.before.before.before.before.before.loop.at c.before.before.before.before.before.walk_step_lem.result.next
-moved c = let w = c.before.before.before.before.before.walk_step_lem in answer_moves _ _ w.result w.ensures (omega arith)
+moved : (c : tie.After-packet invariant-loop decreases-loop) → Moves c.before.before.before.before.before.before.before.before.before.args.bytes.now c.before.before.before.before.before.before.before.loop.at c.before.before.before.before.before.walk_step.result.next
+moved c = let w = c.before.before.before.before.before.walk_step in answer_moves _ _ w.result w.ensures (omega arith)
 
 loop-less : tie.Need-loop-smaller invariant-loop decreases-loop
 loop-less c = let m = moved c in omega arith
