@@ -1,4 +1,5 @@
 // When the packets of a TWCC block arrived, in ticks of 250 µs, and in milliseconds for a display.
+#![tactic(auto)]
 mod millis;
 
 ghost use Rattle.std.specs.Prelude.{◌≡◌, ◌+ℤ◌};
@@ -12,7 +13,7 @@ use twcc::{LATEST_TIME, Status};
 
 // When an entry's packet arrived: it did not; the entry can't be read; it did, but stands behind an entry that can't be read, so
 // that nobody can say when; or at a tick.
-#[derive(Drop)]
+#[derive(Clone, Copy)]
 pub enum Arrival {
     Missing,
     Unreadable,
@@ -21,7 +22,7 @@ pub enum Arrival {
 }
 
 // The same for a display, with milliseconds for ticks.
-#[derive(Drop)]
+#[derive(Clone, Copy)]
 pub enum Overlay {
     Missing,
     Unreadable,
@@ -30,21 +31,21 @@ pub enum Overlay {
 }
 
 // The arrivals to come: the tick that the next delta counts from. It is lost behind an entry that can't be read.
-#[derive(Drop)]
+#[derive(Clone, Copy)]
 pub enum Arrivals {
     From(Tick),
     Lost,
 }
 
 // A block's arrivals, or the refusal of its reference time.
-#[derive(Drop)]
+#[derive(Clone, Copy)]
 pub enum Begun {
     Arrivals(Arrivals),
     No(Refusal),
 }
 
 // An entry's arrival, and the arrivals after it.
-#[derive(Drop)]
+#[derive(Clone, Copy)]
 pub struct Entry {
     pub arrival: Arrival,
     pub next: Arrivals,

@@ -3,7 +3,7 @@ use libc::STDERR_FILENO;
 
 // Which arguments are the command, its file and the numbers of --skip and --take (0: there is none), and which flags are
 // there.
-#[derive(Drop)]
+#[derive(Clone, Copy)]
 pub struct Asked {
     pub command: usize,
     pub file: usize,
@@ -140,7 +140,7 @@ pub fn same(a: &[u8], b: &[u8]) -> bool {
     true
 }
 
-#[derive(Drop)]
+#[derive(Clone, Copy)]
 pub enum Count {
     Is(usize),
     Wrong,

@@ -135,7 +135,7 @@ fn received(line: &mut [u8; LONGEST], at: usize, delta: i16, arrival: Arrival) -
 }
 
 // A tick's distance from 0, and whether it lies before.
-#[derive(Drop)]
+#[derive(Clone, Copy)]
 struct Distance {
     ticks: u64,
     before: bool,

@@ -6,7 +6,7 @@ use crate::{input, line};
 use libc::STDERR_FILENO;
 
 // What a byte of the text is.
-#[derive(Drop)]
+#[derive(Clone, Copy)]
 enum Sign {
     Digit(u8),
     Blank,
@@ -29,7 +29,7 @@ fn sign_of(byte: u8) -> Sign {
 
 // Where the decoding stands: the line, whether its rest is a comment, the first digit of a byte whose second is to come
 // (NONE: there is none), and what the last sign ended.
-#[derive(Drop)]
+#[derive(Clone, Copy)]
 struct Place {
     line: u64,
     comment: bool,
@@ -39,7 +39,7 @@ struct Place {
 
 const NONE: u8 = 16;
 
-#[derive(Drop)]
+#[derive(Clone, Copy)]
 enum Ended {
     Nothing,
     Byte(u8),

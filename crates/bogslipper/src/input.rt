@@ -17,14 +17,14 @@ pub fn room() -> [u8; ROOM]
 }
 
 // How many bytes there are, or none after a message about why not.
-#[derive(Drop)]
+#[derive(Clone, Copy)]
 pub enum Input {
     Bytes(usize),
     Trouble,
 }
 
 // Where the bytes of a report stand: whether FILE is hex text, and how many of its bytes come before them.
-#[derive(Drop)]
+#[derive(Clone, Copy)]
 pub struct Place {
     pub hex: bool,
     pub start: usize,
@@ -64,7 +64,7 @@ pub fn trouble(path: &[u8]) {
     io::write_all(STDERR_FILENO, b": ");
 }
 
-#[derive(Drop)]
+#[derive(Clone, Copy)]
 enum Got {
     More(usize),
     End,

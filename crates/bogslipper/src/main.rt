@@ -1,5 +1,6 @@
 // The command `bogslipper`: reports on RTCP compounds, generic NACKs and TWCC blocks. It reads and prints; every answer is
 // the libraries'.
+#![tactic(auto)]
 mod ask;
 mod entries;
 mod help;
@@ -58,14 +59,14 @@ fn answer(asked: Asked) -> u8 {
     }
 }
 
-#[derive(Drop)]
+#[derive(Clone, Copy)]
 enum Report {
     Compound,
     Nack,
     Twcc,
 }
 
-#[derive(Drop)]
+#[derive(Clone, Copy)]
 enum Command {
     About(Report),
     Help,

@@ -8,7 +8,7 @@ use refusal::{Checked, Number, Refusal};
 use utils::Padded;
 
 // What a packet holds that another command reads.
-#[derive(Drop)]
+#[derive(Clone, Copy)]
 enum Block {
     Nack,
     Twcc,

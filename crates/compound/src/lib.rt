@@ -1,4 +1,5 @@
 // Several packets laid end to end (compound.rs): the first pass over them, and the step of the walk from packet to packet.
+#![tactic(auto)]
 ghost use Rattle.std.specs.Prelude.{◌≡◌, ◌+◌, ◌*◌, ◌<◌, ◌≤◌, length, drop};
 ghost use Rattle.refusal.specs.Said.{said_checked};
 ghost use Rattle.utils.specs.Check.{padding_fits};
@@ -11,7 +12,7 @@ ghost use Rattle.compound.specs.Inner.{WordsBehind, is_usual, said_turn};
 use refusal::{Checked, Refusal};
 
 // One turn of the first pass: where the next packet starts, in words of four bytes.
-#[derive(Drop)]
+#[derive(Clone, Copy)]
 enum Turn {
     Next(usize),
     No(Refusal),
@@ -19,7 +20,7 @@ enum Turn {
 
 // A packet within the bytes: where it starts, how long it is, and how its bytes are shared out: the header's four, the body,
 // the padding. In every record that is made here 4 + body + padding is the length.
-#[derive(Drop)]
+#[derive(Clone, Copy)]
 pub struct Packet {
     pub start: usize,
     pub length: usize,
@@ -28,14 +29,14 @@ pub struct Packet {
 }
 
 // The record of one packet alone.
-#[derive(Drop)]
+#[derive(Clone, Copy)]
 pub enum Alone {
     Packet(Packet),
     No(Refusal),
 }
 
 // What the walk finds at an offset.
-#[derive(Drop)]
+#[derive(Clone, Copy)]
 pub enum Found {
     Over,
     Packet(Packet),
@@ -43,7 +44,7 @@ pub enum Found {
 }
 
 // That, and where the walk goes on.
-#[derive(Drop)]
+#[derive(Clone, Copy)]
 pub struct Walked {
     pub found: Found,
     pub next: usize,

@@ -1,4 +1,5 @@
 // Runs the fixed examples of docs/RULES.md that are not marked P, in its order, and prints what each call answers.
+#![tactic(auto)]
 use arrival::{Arrival, Arrivals, Begun};
 use compound::Packet;
 use kinds::{RefTime, Seq, Tick};

@@ -1,5 +1,6 @@
 // The C interface, as include/bogslipper.h declares it: the proved functions under plain names, each answer a struct of
 // numbers. An export promises what the function behind it promises.
+#![tactic(auto)]
 ghost use Rattle.std.specs.Prelude.{◌≡◌, [], ◌∷◌, pos};
 ghost use Rattle.octets.specs.Signed.{bits64};
 ghost use Rattle.refusal.specs.Number.{no};
@@ -25,7 +26,7 @@ use utils::Padded;
 
 // Number 0 and the answer's values, or a refusal's number and its values; the rest 0.
 #[repr(C)]
-#[derive(Drop)]
+#[derive(Clone, Copy)]
 pub struct Said {
     pub number: u64,
     pub values: [u64; 8],
@@ -248,7 +249,7 @@ pub extern "C" fn bog_twcc_read(block: &[u8], list: &mut [i32]) -> Said
 }
 
 // A cursor as plain numbers.
-#[derive(Drop)]
+#[derive(Clone, Copy)]
 struct State {
     placed: u64,
     ticks: u64,

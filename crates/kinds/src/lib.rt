@@ -1,17 +1,18 @@
 // The numbers that must not be taken for one another, each a type of its own.
+#![tactic(auto)]
 ghost use Rattle.std.specs.Prelude.{◌≡◌};
 ghost use Rattle.kinds.specs.Seq.{later};
 
 // A packet's sequence number. It moves on modulo 65,536.
-#[derive(Drop)]
+#[derive(Clone, Copy)]
 pub struct Seq(pub u16);
 
 // A reference time: a count of 64 ms.
-#[derive(Drop)]
+#[derive(Clone, Copy)]
 pub struct RefTime(pub u32);
 
 // A point in time: a count of 250 µs.
-#[derive(Drop)]
+#[derive(Clone, Copy)]
 pub struct Tick(pub i64);
 
 impl Seq {

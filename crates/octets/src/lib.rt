@@ -1,4 +1,6 @@
 // Bytes and the numbers that they hold, for all crates that read or write them.
+#![tactic(auto)]
+
 ghost use Rattle.std.specs.Prelude.{◌≡◌, ◌+◌, ◌*◌, ◌<◌, min, get_or};
 ghost use Rattle.octets.specs.Big.{be};
 ghost use Rattle.octets.specs.Signed.{bits64};

@@ -1,7 +1,8 @@
 // The refusals of this library, numbered as docs/RULES.md numbers them, and the two answers that most calls give.
+#![tactic(auto)]
 ghost use Rattle.refusal.specs.Told.{Tells};
 
-#[derive(Drop)]
+#[derive(Clone, Copy)]
 pub enum Refusal {
     Truncated { expected: usize, actual: usize },
     UnsupportedVersion(u8),
@@ -21,21 +22,21 @@ pub enum Refusal {
 }
 
 // A check's answer: nothing to object to, or why not.
-#[derive(Drop)]
+#[derive(Clone, Copy)]
 pub enum Checked {
     Fine,
     No(Refusal),
 }
 
 // A number that was read, counted or written, or why there is none.
-#[derive(Drop)]
+#[derive(Clone, Copy)]
 pub enum Number {
     Is(usize),
     No(Refusal),
 }
 
 // A refusal as plain numbers, for callers in other languages: its number and its values, 0 for a value that it lacks.
-#[derive(Drop)]
+#[derive(Clone, Copy)]
 pub struct Told {
     pub number: u64,
     pub first: u64,

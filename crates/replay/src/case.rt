@@ -16,14 +16,14 @@ const WORDS: u32 = 6;
 const OUTCOME: u32 = 9;
 
 // A part: the width of its elements, the place of the first, and the length of them all in bytes.
-#[derive(Drop)]
+#[derive(Clone, Copy)]
 pub struct Part {
     pub width: u32,
     pub from: usize,
     pub length: usize,
 }
 
-#[derive(Drop)]
+#[derive(Clone, Copy)]
 pub struct Case {
     pub numbers: Part,
     pub read: Part,

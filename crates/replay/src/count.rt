@@ -2,7 +2,7 @@
 use crate::judge::{AGREES, UNREADABLE};
 
 // Cases, those that disagree; lines that are wrong on purpose, those that were found out.
-#[derive(Drop)]
+#[derive(Clone, Copy)]
 pub struct Counts {
     pub cases: u64,
     pub disagreements: u64,
@@ -11,7 +11,7 @@ pub struct Counts {
 }
 
 // The place of the name of the call at hand, its counts, and those of all.
-#[derive(Drop)]
+#[derive(Clone, Copy)]
 pub struct Book {
     pub named: usize,
     pub chapter: Counts,

@@ -1,5 +1,6 @@
 // Replays a recording: runs each of its cases against our code, and compares what the call says and all the memory that it was
 // lent with what is recorded. The recording is the file that the first argument names; it opens with its own grammar.
+#![tactic(auto)]
 mod bytes;
 mod call;
 mod case;

@@ -1,5 +1,6 @@
 // The format of transport-wide congestion control (TWCC) feedback, for the reader and the writer: status words and their symbols,
 // chunks and what they stand for. A status word is a `word`, a chunk's 16 bits are a `chunk`.
+#![tactic(auto)]
 ghost use Rattle.std.specs.Prelude.{◌≡◌, ◌%◌, ◌≤◌, length, get_or};
 ghost use Rattle.twcc.specs.Words.{symbol_of};
 ghost use Rattle.twcc.specs.Status.{status_of};
@@ -30,7 +31,7 @@ pub const RUNS_END: usize = 32768;
 pub const ONES_END: usize = 49152;
 
 // What a status word says of its packet.
-#[derive(Drop)]
+#[derive(Clone, Copy)]
 pub enum Status {
     Received(i16),
     NotReceived,

@@ -1,5 +1,6 @@
 // The parts of a TWCC block: its header, its chunks, its deltas and its packets. Chunks, deltas and packets are cursors by value;
 // `next` hands back what stands there and the next cursor. Every function takes any block.
+#![tactic(auto)]
 ghost use Rattle.std.specs.Prelude.{◌≡◌, ◌+◌, ◌*◌, ◌≤◌, ◌<◌, drop};
 ghost use Rattle.twcc.specs.Words.{signed16};
 ghost use Rattle.twcc.specs.Time.{latest, time_of};
@@ -19,7 +20,7 @@ fn time_of(bits: usize) -> RefTime
 }
 
 // A block's header.
-#[derive(Drop)]
+#[derive(Clone, Copy)]
 pub struct Header {
     pub base: Seq,
     pub statuses: u16,
@@ -28,7 +29,7 @@ pub struct Header {
 }
 
 // A header, or the refusal of a block that is too short for one.
-#[derive(Drop)]
+#[derive(Clone, Copy)]
 pub enum Headed {
     Header(Header),
     No(Refusal),
@@ -59,14 +60,14 @@ impl Header {
 }
 
 // The chunks to come: where the next one stands, and the statuses left.
-#[derive(Drop)]
+#[derive(Clone, Copy)]
 pub struct Chunks {
     pub at: usize,
     pub left: usize,
 }
 
 // A chunk, how many entries it lists, and the chunks after it.
-#[derive(Drop)]
+#[derive(Clone, Copy)]
 pub enum NextChunk {
     Taken {
         chunk: usize,
@@ -126,7 +127,7 @@ impl Chunks {
 }
 
 // How many entries a block lists, and where its deltas start.
-#[derive(Drop)]
+#[derive(Clone, Copy)]
 pub struct Counts {
     pub listed: usize,
     pub start: usize,
@@ -177,13 +178,13 @@ pub fn large(high: u8, low: u8) -> i32
 }
 
 // The deltas to come: where the next one stands.
-#[derive(Drop)]
+#[derive(Clone, Copy)]
 pub struct Deltas {
     pub at: usize,
 }
 
 // An entry's status word, and the deltas after it.
-#[derive(Drop)]
+#[derive(Clone, Copy)]
 pub struct Delta {
     pub word: i32,
     pub next: Deltas,
@@ -235,7 +236,7 @@ impl Deltas {
 
 // The packets to come, as the Rust's `packets` gives them: the next one's number, the chunk being listed, the next symbol's place in it and how many it
 // lists, the chunks after it, and the deltas.
-#[derive(Drop)]
+#[derive(Clone, Copy)]
 pub struct Packets {
     pub number: Seq,
     pub chunk: usize,
@@ -245,14 +246,14 @@ pub struct Packets {
     pub deltas: Deltas,
 }
 
-#[derive(Drop)]
+#[derive(Clone, Copy)]
 pub enum Opened {
     Packets(Packets),
     No(Refusal),
 }
 
 // A packet's number and status word, and the packets after it.
-#[derive(Drop)]
+#[derive(Clone, Copy)]
 pub enum NextPacket {
     Packet {
         number: Seq,

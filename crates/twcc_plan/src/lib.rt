@@ -1,4 +1,5 @@
 // What a TWCC block writer asks of its list: the first word that can't be written, and the chunks of a block within a limit.
+#![tactic(auto)]
 mod pick;
 
 ghost use Rattle.std.specs.Prelude.{◌≡◌, map, cond, ◌+◌, ◌≤◌, ◌<◌, pos, length, get_or, drop};
@@ -79,21 +80,21 @@ pub fn first_bad(list: &[i32]) -> usize
 }
 
 // The most bytes that a block may have.
-#[derive(Drop)]
+#[derive(Clone, Copy)]
 pub enum Limit {
     Absent,
     Bytes(usize),
 }
 
 // A step of the plan: one chunk more, or the end.
-#[derive(Drop)]
+#[derive(Clone, Copy)]
 pub(crate) enum Step {
     Take(Picked),
     Stop,
 }
 
 // A plan's chunks, its bytes without and with padding, and the entries that it takes.
-#[derive(Drop)]
+#[derive(Clone, Copy)]
 pub struct Plan {
     pub chunks: usize,
     pub used: usize,

@@ -10,7 +10,7 @@ ghost use Rattle.twcc_plan.specs.Picked.{picked, Places, vector_of, run_picked, 
 use twcc::{LONGEST_RUN, ONES_END, RUN_WEIGHT, RUNS_END};
 
 // A chunk as it is written, the entries that it takes, and their delta bytes.
-#[derive(Drop)]
+#[derive(Clone, Copy)]
 pub(crate) struct Picked {
     pub chunk: usize,
     pub count: usize,
@@ -289,7 +289,7 @@ fn pick_plain(rest: &[i32]) -> Picked
 }
 
 // Seven symbols as two-bit digits, their delta bytes, and how many of them are 2.
-#[derive(Drop)]
+#[derive(Clone, Copy)]
 pub(crate) struct Seven {
     pub two: u32,
     pub width: u32,

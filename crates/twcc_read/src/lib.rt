@@ -1,4 +1,5 @@
 // The TWCC block reader.
+#![tactic(auto)]
 mod fill;
 
 ghost use Rattle.twcc_read.specs.Promise.{Reads};
@@ -7,13 +8,13 @@ use refusal::Refusal;
 use twcc_cursors::{Headed, Header};
 
 // What a block says: its header, and how many entries it lists.
-#[derive(Drop)]
+#[derive(Clone, Copy)]
 pub struct Listed {
     pub header: Header,
     pub count: usize,
 }
 
-#[derive(Drop)]
+#[derive(Clone, Copy)]
 pub enum Reading {
     Block(Listed),
     No(Refusal),

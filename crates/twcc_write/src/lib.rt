@@ -1,4 +1,5 @@
 // The TWCC block writer (`TwccBuilder` of feedback/twcc.rs): it plans a block's chunks, then writes the block.
+#![tactic(auto)]
 ghost use Rattle.std.specs.Prelude.{◌≡◌, map, cond, ◌+◌, ◌*◌, ◌/◌, ◌%◌, ◌≤◌, ◌<◌, ltb, eqb, pos, length, get_or, take, drop};
 ghost use Rattle.std.proofs.lemmas.List.Edits.{sets};
 ghost use Rattle.twcc.specs.Time.{latest, time_bits};
@@ -19,13 +20,13 @@ use twcc_plan::Limit;
 const MOST_ENTRIES: usize = 16384;
 
 // What a block used: its bytes, and the entries that it took.
-#[derive(Drop)]
+#[derive(Clone, Copy)]
 pub struct Used {
     pub bytes: usize,
     pub taken: usize,
 }
 
-#[derive(Drop)]
+#[derive(Clone, Copy)]
 pub enum Written {
     Block(Used),
     No(Refusal),

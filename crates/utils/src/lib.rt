@@ -1,5 +1,6 @@
 // The four-byte header that every RTCP packet opens with (utils.rs): its fields, each read alone, the padding byte, and the
 // checks that a packet of a known type has to pass.
+#![tactic(auto)]
 ghost use Rattle.std.specs.Prelude.{◌≡◌, ◌≤◌};
 ghost use Rattle.refusal.specs.Said.{said_checked, said_number};
 ghost use Rattle.utils.specs.Header.{shortest, longest, version_of, padding_bit_of, count_of, type_of, length_of};
@@ -14,7 +15,7 @@ pub const SHORTEST: usize = 4;
 pub const LONGEST: usize = 262144;
 
 // The padding byte, where the padding bit is set.
-#[derive(Drop)]
+#[derive(Clone, Copy)]
 pub enum Padded {
     Clear,
     Byte(u8),

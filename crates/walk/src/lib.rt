@@ -1,10 +1,11 @@
 // The walk over a compound that keeps the lent bytes with its offset (compound.rs, the iterator): thin functions over
 // compound's step.
+#![tactic(auto)]
 ghost use Rattle.walk.specs.Promises.{Starts, Steps, HandsBackPart, Follows};
 
 use compound::Walked;
 
-#[derive(Drop)]
+#[derive(Clone, Copy)]
 pub struct Compound<'a> {
     pub bytes: &'a [u8],
     pub offset: usize,
