@@ -1,6 +1,7 @@
 // Exact stores into a lent buffer, for the writers. Bytes that would lie past the buffer's end fall away; a writer that
 // tested its room loses none.
 #![tactic(auto)]
+
 ghost use Rattle.std.specs.Prelude.{◌≡◌, [], ◌∷◌, ◌-◌, ◌≤◌, length, take};
 ghost use Rattle.octets.specs.Big.{be_bytes};
 ghost use Rattle.lent.specs.Bytes.{zero_bytes, fitting};

@@ -1,6 +1,7 @@
 // The four-byte header that every RTCP packet opens with (utils.rs): its fields, each read alone, the padding byte, and the
 // checks that a packet of a known type has to pass.
 #![tactic(auto)]
+
 ghost use Rattle.std.specs.Prelude.{◌≡◌, ◌≤◌};
 ghost use Rattle.refusal.specs.Said.{said_checked, said_number};
 ghost use Rattle.utils.specs.Header.{shortest, longest, version_of, padding_bit_of, count_of, type_of, length_of};

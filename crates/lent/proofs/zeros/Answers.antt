@@ -1,4 +1,3 @@
-use Prim.Native.Nat.{◌-◌}
 use mathlib.Core.Path.{sym, ◌∙◌}
 use Rattle.lent.proofs.Laws.{length-zero_bytes, get_or-zero_bytes, sets_zeros}
 use Rattle.lent.proofs.Storing.{storing_start, storing_turn, storing_over}
