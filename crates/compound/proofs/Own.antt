@@ -46,7 +46,7 @@ module _ (bytes : List ℕ) (at next : ℕ) (p : Packet) (steps : walk_step byte
 
   -- a record that the walk made is of its packet's bytes
   pub walk_checks : check_record (bytes_in bytes p) p ≡ gave tt
-  walk_checks = adds_up (bytes_in bytes p) p size_in handed.adds-up
+  walk_checks = adds_up (bytes_in bytes p) p size_in handed.adds_up
 
   abbrev alone : Packet
   alone = record { start = 0; length = p.length; body = p.body; padding = p.padding }
@@ -60,4 +60,4 @@ module _ (bytes : List ℕ) (at next : ℕ) (p : Packet) (steps : walk_step byte
   -- and says what those bytes say
   pub walk_own : own_record (bytes_in bytes p) ≡ gave alone
   unfolding own_record
-  walk_own = rw (ap check_length bytes_in_lem ∙ right-front (drop at bytes) inside, own_is, adds_up (bytes_in bytes p) alone size_in handed.adds-up) refl
+  walk_own = rw (ap check_length bytes_in_lem ∙ right-front (drop at bytes) inside, own_is, adds_up (bytes_in bytes p) alone size_in handed.adds_up) refl

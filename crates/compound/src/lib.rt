@@ -1,5 +1,6 @@
 // Several packets laid end to end (compound.rs): the first pass over them, and the step of the walk from packet to packet.
 #![tactic(auto)]
+
 ghost use Rattle.std.specs.Prelude.{◌≡◌, ◌+◌, ◌*◌, ◌<◌, ◌≤◌, length, drop};
 ghost use Rattle.refusal.specs.Said.{said_checked};
 ghost use Rattle.utils.specs.Check.{padding_fits};

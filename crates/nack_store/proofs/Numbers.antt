@@ -78,10 +78,12 @@ numbers_set s size = record {
 rising_low : {end low : ℕ} (m : ℕ) (ns : List ℕ) → Rising end low ns → In m ns → low ≤ m
 rising_low m (n ∷ ns) (more above below rest) (Memᴰ.head e) = omega arith
 rising_low m (n ∷ ns) (more above below rest) (Memᴰ.tail i) = let h = rising_low m ns rest i in omega arith
+rising_low {end = end} {low = low} m [] _ x3 = elim x3 [ ]
 
 rising_high : {end low : ℕ} (m : ℕ) (ns : List ℕ) → Rising end low ns → In m ns → m < end
 rising_high m (n ∷ ns) (more above below rest) (Memᴰ.head e) = omega arith
 rising_high m (n ∷ ns) (more above below rest) (Memᴰ.tail i) = rising_high m ns rest i
+rising_high {end = end} {low = low} m [] _ x3 = elim x3 [ ]
 
 -- two ascending lists of the same numbers are one
 rising_same : (end low : ℕ) (a b : List ℕ) → Rising end low a → Rising end low b → ((m : ℕ) → In m a → In m b) → ((m : ℕ) → In m b → In m a) → a ≡ b
@@ -134,6 +136,7 @@ added_in s (n ∷ ns) m below (Memᴰ.head e) =
     let one = added-one s n (below_first s n ns below) in
     added-kept (added s n) ns m (below_rest s n ns below) (rw e one.this)
 added_in s (n ∷ ns) m below (Memᴰ.tail i) = added_in (added s n) ns m (below_rest s n ns below) i
+added_in s [] m below x'' = elim x'' [ ]
 
 -- what is there afterwards was added or there
 added-from : (s ns : List ℕ) (m : ℕ) → AllBelow (8 * length s) ns → bit_of s m ≡ 0 → bit_of (added_all s ns) m ≡ 1 → In m ns

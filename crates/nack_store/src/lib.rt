@@ -1,6 +1,7 @@
 // The set of sequence numbers that a generic NACK is written from, as a bitmap that the caller lends: number n at byte
 // n / 8, bit n mod 8, bit 0 worth 1. Each call refuses bytes of another size, and then touches none of them.
 #![tactic(auto)]
+
 ghost use Rattle.std.specs.Prelude.{◌≡◌, ◌<◌, length};
 ghost use Rattle.refusal.specs.Said.{said_number};
 ghost use Rattle.nack_store.specs.Bits.{store_size, with_bit, changed_bit, added, removed, empty_store, numbers_of};

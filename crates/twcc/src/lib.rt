@@ -1,6 +1,7 @@
 // The format of transport-wide congestion control (TWCC) feedback, for the reader and the writer: status words and their symbols,
 // chunks and what they stand for. A status word is a `word`, a chunk's 16 bits are a `chunk`.
 #![tactic(auto)]
+
 ghost use Rattle.std.specs.Prelude.{◌≡◌, ◌%◌, ◌≤◌, length, get_or};
 ghost use Rattle.twcc.specs.Words.{symbol_of};
 ghost use Rattle.twcc.specs.Status.{status_of};
