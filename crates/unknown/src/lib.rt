@@ -1,6 +1,7 @@
 // Packets of any type (`Unknown` and `UnknownBuilder` of compound.rs): the check that a packet has to pass, and the plain
 // writer of any count, type, body and padding.
 #![tactic(auto)]
+
 ghost use Rattle.std.specs.Prelude.{◌≡◌, ◌+◌, ◌≤◌, length};
 ghost use Rattle.std.proofs.lemmas.List.Edits.{sets};
 ghost use Rattle.refusal.specs.Said.{said_checked};

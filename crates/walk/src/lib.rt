@@ -1,6 +1,7 @@
 // The walk over a compound that keeps the lent bytes with its offset (compound.rs, the iterator): thin functions over
 // compound's step.
 #![tactic(auto)]
+
 ghost use Rattle.walk.specs.Promises.{Starts, Steps, HandsBackPart, Follows};
 
 use compound::Walked;

@@ -11,6 +11,7 @@ use mir.Facts.{to_z-of_z}
 use Rattle.twcc.specs.Words.{symbol_of}
 use Rattle.twcc.proofs.Tested.{by_yes, by_no, tested_small, small_tested}
 use Rattle.twcc.proofs.small.Goals as goal
+use Rattle.twcc.proofs.small.Goals.{then-word-gt255, else-word-gt255}
 
 pub returns-then-word-lt0 : goal.returns-then-word-lt0
 returns-then-word-lt0 c =
@@ -21,6 +22,6 @@ returns-then-word-lt0 c =
 pub returns-else-word-lt0 : goal.returns-else-word-lt0
 returns-else-word-lt0 c =
     let read : ℤ = to_z w32 (of_z w32 c.args.word) in
-    let few : c.if-word-gt255.few ≡ cond (lt_z (pos 255) read) 0 1 = ⊎_elim (λ k. by_yes _ k.0.taken k.1) (λ k. by_no _ k.0.left k.1) c.if-word-gt255.branch in
+    let few : c.if-word-gt255.few ≡ cond (lt_z (pos 255) read) 0 1 = elim c.if-word-gt255.branch [ then-word-gt255 w ↦ by_yes _ w.if-word-gt255.true w.few-is | else-word-gt255 w ↦ by_no _ w.if-word-gt255.false w.few-is ] in
     let is : tested_small read ≡ symbol_of c.args.word % 2 = small_tested read ∙ ap (λ (w : ℤ). symbol_of w % 2) (to_z-of_z {w = w32} c.ranges.word) in
     by_no _ c.if-word-lt0.false few ∙ is
