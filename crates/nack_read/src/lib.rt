@@ -1,5 +1,6 @@
 // Reading the generic NACK's entries: the numbers that they name, into a list that the caller lends.
 #![tactic(auto)]
+
 ghost use Rattle.std.specs.Prelude.{◌≡◌, ◌+◌, ◌<◌, ◌≤◌, length};
 ghost use Rattle.std.specs.Int.Count.{ones};
 ghost use Rattle.std.proofs.lemmas.List.Edits.{sets};

@@ -1,5 +1,6 @@
 // Writing the generic NACK's entries: those of a store's numbers, into bytes that the caller lends.
 #![tactic(auto)]
+
 ghost use Rattle.std.specs.Prelude.{◌≡◌, ◌+◌, ◌/◌, ◌<◌, ◌≤◌, length};
 ghost use Rattle.std.proofs.lemmas.List.Edits.{sets};
 ghost use Rattle.nack_store.specs.Bits.{store_size, bit_of, window, numbers_of};

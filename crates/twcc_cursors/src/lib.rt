@@ -1,6 +1,7 @@
 // The parts of a TWCC block: its header, its chunks, its deltas and its packets. Chunks, deltas and packets are cursors by value;
 // `next` hands back what stands there and the next cursor. Every function takes any block.
 #![tactic(auto)]
+
 ghost use Rattle.std.specs.Prelude.{◌≡◌, ◌+◌, ◌*◌, ◌≤◌, ◌<◌, drop};
 ghost use Rattle.twcc.specs.Words.{signed16};
 ghost use Rattle.twcc.specs.Time.{latest, time_of};

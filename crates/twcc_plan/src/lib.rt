@@ -1,5 +1,6 @@
 // What a TWCC block writer asks of its list: the first word that can't be written, and the chunks of a block within a limit.
 #![tactic(auto)]
+
 mod pick;
 
 ghost use Rattle.std.specs.Prelude.{◌≡◌, map, cond, ◌+◌, ◌≤◌, ◌<◌, pos, length, get_or, drop};
