@@ -1,5 +1,6 @@
 // When the packets of a TWCC block arrived, in ticks of 250 µs, and in milliseconds for a display.
 #![tactic(auto)]
+
 mod millis;
 
 ghost use Rattle.std.specs.Prelude.{◌≡◌, ◌+ℤ◌};

@@ -1,6 +1,7 @@
 // Cutting a list into blocks: the theorem that the cuts can't be seen is stated in specs/ and proved in proofs/; here is the one
 // number that goes from block to block.
 #![tactic(auto)]
+
 ghost use Rattle.std.specs.Prelude.{◌≡◌};
 ghost use Rattle.kinds.specs.Seq.{later};
 

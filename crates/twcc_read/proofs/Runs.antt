@@ -5,7 +5,7 @@ use mathlib.Core.List.{List, [], ◌∷◌, ◌++◌}
 use native.Mathlib.Nat.{add-zero, zero-mul, suc-mul}
 use native.Mathlib.Omega.{arith}
 use lib.IntN.{ℤ}
-use lib.ListN.{length, drop, set, replicate, length-drop, length-replicate, get_or-replicate, replicate_append_replicate, drop_of_length-le}
+use lib.ListN.{length, drop, set, replicate, length-drop, length-replicate, get_or-replicate, replicate-append-replicate, drop_of_length-le}
 use lib.Seq.{sets, drop-drop}
 use Rattle.twcc.specs.Words.{bytes_of, width_of, word_of, entries, truncated}
 use Rattle.twcc.proofs.Entries.{length-entries}
@@ -44,7 +44,7 @@ eights_start s n from k old inside =
 two_runs : (m n x : ℕ) → m ≤ n → replicate m x ++ replicate (n - m) x ≡ replicate n x
 two_runs m n x fits =
     let sum : m + (n - m) ≡ n = omega arith in
-    replicate_append_replicate m (n - m) x ∙ ap (λ (i : ℕ). replicate i x) sum
+    replicate-append-replicate m (n - m) x ∙ ap (λ (i : ℕ). replicate i x) sum
 
 -- some of the entries to come
 some_of : (s : List ℕ) (m n from k j d' : ℕ) (old list new : List ℤ) → m ≤ n - j → EightsFilling s n from k j old list

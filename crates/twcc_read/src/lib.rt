@@ -1,5 +1,6 @@
 // The TWCC block reader.
 #![tactic(auto)]
+
 mod fill;
 
 ghost use Rattle.twcc_read.specs.Promise.{Reads};

@@ -1,5 +1,6 @@
 // The TWCC block writer (`TwccBuilder` of feedback/twcc.rs): it plans a block's chunks, then writes the block.
 #![tactic(auto)]
+
 ghost use Rattle.std.specs.Prelude.{◌≡◌, map, cond, ◌+◌, ◌*◌, ◌/◌, ◌%◌, ◌≤◌, ◌<◌, ltb, eqb, pos, length, get_or, take, drop};
 ghost use Rattle.std.proofs.lemmas.List.Edits.{sets};
 ghost use Rattle.twcc.specs.Time.{latest, time_bits};

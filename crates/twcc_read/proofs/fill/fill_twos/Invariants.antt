@@ -1,0 +1,11 @@
+-- Each turn lists one symbol's entry, and at most two bytes go with it.
+use Prim.Native.Nat.{◌+◌, ◌-◌, ◌*◌, ◌≤◌}
+use Rattle.twcc.specs.Chunks.{unpack}
+use Rattle.twcc_read.proofs.Filling.{EachFilling}
+use Rattle.twcc_read.proofs.fill.fill_twos.Given as goal
+
+abbrev pub invariant-loop-j : goal.invariant-loop-j
+invariant-loop-j l = (EachFilling l.block (unpack 4 7 l.chunk) 7 l.from l.p l.k l.j l.initial.list l.list) × (l.p ≤ l.from + 2 * l.j)
+
+abbrev pub decreases-loop-j : goal.decreases-loop-j
+decreases-loop-j l = 7 - l.j
