@@ -1,5 +1,6 @@
 // The numbers that must not be taken for one another, each a type of its own.
 #![tactic(auto)]
+
 ghost use Rattle.std.specs.Prelude.{◌≡◌};
 ghost use Rattle.kinds.specs.Seq.{later};
 

@@ -1,5 +1,6 @@
 // The refusals of this library, numbered as docs/RULES.md numbers them, and the two answers that most calls give.
 #![tactic(auto)]
+
 ghost use Rattle.refusal.specs.Told.{Tells};
 
 #[derive(Clone, Copy)]

@@ -1,4 +1,3 @@
-use Prim.Native.Nat.{◌-◌}
 use native.Mathlib.Omega.{arith}
 use Rattle.nack_read.proofs.Listing.{tally_turn, tally_over}
 use Rattle.nack_read.proofs.count_listed.Goals as goal

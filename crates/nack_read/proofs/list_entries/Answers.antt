@@ -1,4 +1,3 @@
-use Prim.Native.Nat.{◌-◌}
 use native.Mathlib.Omega.{arith}
 use Rattle.nack_read.proofs.Listing.{listing_room, listing_turn, listing_over}
 use Rattle.nack_read.proofs.list_entries.Goals as goal

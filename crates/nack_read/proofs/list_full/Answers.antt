@@ -1,4 +1,4 @@
-use Prim.Native.Nat.{ℕ, suc, ◌-◌, ◌+◌, ◌%◌}
+use Prim.Native.Nat.{ℕ, suc, ◌+◌, ◌%◌}
 use mathlib.Core.Path.{◌≡◌, sym, ap, ◌∙◌}
 use native.Mathlib.Omega.{arith}
 use lib.ListN.{get_or}

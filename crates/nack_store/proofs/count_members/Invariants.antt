@@ -1,6 +1,5 @@
 -- Each byte adds its ones.
 use Prim.Native.Nat.{◌-◌}
-use lib.Count.{ones}
 use Rattle.nack_store.proofs.Tallying.{Tallying}
 use Rattle.nack_store.proofs.count_members.Given as goal
 

@@ -1,4 +1,3 @@
-use Prim.Native.Nat.{◌-◌}
 use native.Mathlib.Omega.{arith}
 use Rattle.nack.proofs.Opens.{most_entries_lem}
 use Rattle.nack_write.proofs.Writing.{counted_start, counted-turn, counted-over}

@@ -1,4 +1,3 @@
-use Prim.Native.Nat.{◌-◌}
 use Rattle.nack_write.proofs.Scan.{passed_turn}
 use Rattle.nack_write.proofs.next_from.Goals as goal
 

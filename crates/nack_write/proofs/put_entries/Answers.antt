@@ -1,4 +1,3 @@
-use Prim.Native.Nat.{◌-◌}
 use native.Mathlib.Omega.{arith}
 use Rattle.nack_write.proofs.Writing.{putting_start, putting_room, putting_turn, putting_over}
 use Rattle.nack_write.proofs.put_entries.Goals as goal

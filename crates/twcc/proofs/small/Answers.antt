@@ -1,6 +1,5 @@
 -- Two tests and no jump tell a small delta.
 use mathlib.Core.Path.{◌≡◌, refl, ap, ◌∙◌}
-use mathlib.Core.Logic.{⊎_elim}
 use mathlib.Core.Bool.{cond}
 use Prim.Native.Nat.{◌%◌}
 use lib.IntN.{ℤ, pos}

@@ -1,7 +1,6 @@
 -- Within its length the word's kind says where the symbol's bits stand.
 use mathlib.Core.Path.{sym}
 use native.Mathlib.Omega.{arith}
-use lib.ListN.{length}
 use Rattle.twcc.proofs.Stands.{size-run, size-one, size-two, run_at, one_at, two_at}
 use Rattle.twcc.proofs.symbol_at.Goals as goal
 

@@ -1,4 +1,3 @@
-use Prim.Native.Nat.{◌-◌}
 use native.Mathlib.Omega.{arith}
 use Rattle.twcc_plan.proofs.Fronts.{count-block}
 use Rattle.twcc_plan.proofs.fine_blocks.Goals as goal

@@ -1,4 +1,3 @@
-use Prim.Native.Nat.{◌-◌}
 use lib.IntN.{pos}
 use Rattle.twcc_plan.proofs.Fronts.{missing_turn}
 use Rattle.twcc_plan.proofs.outside.Goals as goal

@@ -1,6 +1,5 @@
 -- The tests in their order.
 use borrow.Author.Tests.{lt-ltb, le-ltb, le-leb, lt-leb}
-use Prim.Native.Nat.{◌-◌}
 use Rattle.twcc_plan.specs.Steps.{short_step}
 use Rattle.twcc_plan.proofs.shortened.Goals as goal
 

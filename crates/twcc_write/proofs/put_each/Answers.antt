@@ -1,4 +1,3 @@
-use Prim.Native.Nat.{◌-◌}
 use native.Mathlib.Omega.{arith}
 use Rattle.twcc_write.proofs.Spreading.{spreading_start, spreading_turn, quick_storable}
 use Rattle.twcc_write.proofs.put_each.Goals as goal

@@ -1,4 +1,3 @@
-use Prim.Native.Nat.{◌-◌}
 use native.Mathlib.Omega.{arith}
 use Rattle.twcc_write.proofs.Storing.{storing_over}
 use Rattle.twcc_write.proofs.Running.{run-symbol, run_room, small-turn}

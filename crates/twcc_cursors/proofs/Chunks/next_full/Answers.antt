@@ -1,4 +1,3 @@
-use Prim.Native.Nat.{◌-◌}
 use mathlib.Core.Path.{sym, subst, ◌∙◌}
 use native.Mathlib.Omega.{arith}
 use Rattle.twcc_cursors.proofs.Steps.{IsOver, IsTaken, StepIs, step_is}

@@ -1,4 +1,3 @@
-use Prim.Native.Nat.{◌-◌}
 use mathlib.Core.List.{map}
 use lib.ListN.{length-map}
 use Rattle.twcc.specs.Words.{symbol_of}

@@ -1,8 +1,7 @@
-use mathlib.Core.Path.{sym, ◌∙◌}
 use lib.IntN.{pos}
 use lib.ListN.{get_or}
 use mir.Syntax.{w32}
-use mir.Val.{SFits, of_z}
+use mir.Val.{SFits}
 use Rattle.std.proofs.Math.Facts.{of_z-to_z, Fits-of_z, Fits-or}
 use native.Mathlib.Omega.{arith}
 use borrow.Author.Rules.{rules}

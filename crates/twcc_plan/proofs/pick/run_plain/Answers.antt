@@ -1,5 +1,4 @@
 use borrow.Author.Tests.{eq-eqb, ne_eqb}
-use Prim.Native.Nat.{◌-◌}
 use mathlib.Core.Path.{sym}
 use mathlib.Core.List.{map}
 use native.Mathlib.Omega.{arith}

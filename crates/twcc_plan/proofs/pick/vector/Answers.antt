@@ -1,4 +1,4 @@
-use Prim.Native.Nat.{◌-◌, min}
+use Prim.Native.Nat.{min}
 use mathlib.Core.Path.{sym, ap, ◌∙◌}
 use mathlib.Core.List.{map}
 use native.Mathlib.Omega.{arith}

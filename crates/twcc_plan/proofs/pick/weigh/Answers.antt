@@ -1,4 +1,3 @@
-use Prim.Native.Nat.{◌-◌}
 use lib.ListN.{length-map}
 use Rattle.twcc_plan.proofs.Fourteen.{weighing_turn, weighing_over}
 use Rattle.twcc_plan.proofs.pick.weigh.Goals as goal

@@ -1,4 +1,3 @@
-use Prim.Native.Nat.{◌-◌}
 use Rattle.twcc_read.proofs.Runs.{eights_turn}
 use Rattle.twcc_read.proofs.fill.fill_large.Goals as goal
 

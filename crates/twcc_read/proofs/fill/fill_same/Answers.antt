@@ -1,4 +1,3 @@
-use Prim.Native.Nat.{◌-◌}
 use mathlib.Core.Path.{sym}
 use mir.Syntax.{w32}
 use mir.Val.{to_z, of_z}
