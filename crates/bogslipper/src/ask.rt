@@ -1,5 +1,10 @@
 // What the command line asks for.
-use libc::STDERR_FILENO;
+use crate::stream;
+use std::env::FillError;
+use std::rt::Env;
+
+// The longest argument that is taken.
+pub const LONGEST: usize = 4096;
 
 // Which arguments are the command, its file and the numbers of --skip and --take (0: there is none), and which flags are
 // there.
@@ -15,7 +20,7 @@ pub struct Asked {
     pub wrong: bool,
 }
 
-pub fn ask() -> Asked {
+pub fn ask(rt: &impl Env, err: &impl Print) -> Asked {
     let mut asked = Asked {
         command: 0,
         file: 0,
@@ -26,30 +31,34 @@ pub fn ask() -> Asked {
         status: false,
         wrong: false,
     };
-    let count = os::arg_count();
-    let mut i = 1;
-    while i < count {
-        asked = asked.argument(i);
-        i += 1;
+    for i in 1..usize::MAX {
+        let Some(next) = asked.argument(rt, err, i) else {
+            break;
+        };
+        asked = next;
     }
     asked
 }
 
 impl Asked {
-    fn argument(self, i: usize) -> Asked {
-        let mut word = io::buffer();
-        let n = os::arg(i, &mut word);
-        if os::errno() != 0 {
-            io::write_all(STDERR_FILENO, b"bogslipper: an argument above 4096 bytes\n");
-            return self.refused();
-        }
+    // What is asked for with one argument more, where there is one.
+    fn argument(self, rt: &impl Env, err: &impl Print, i: usize) -> Option<Asked> {
+        let mut word = [0u8; LONGEST];
+        let n = match rt.arg(i, &mut word) {
+            Ok(n) => n,
+            Err(FillError::TooLong) => {
+                stream::write_all(err, b"bogslipper: an argument above 4096 bytes\n");
+                return Some(self.refused());
+            }
+            Err(FillError::NotPresent) => return None,
+        };
         if i == self.skip {
-            return self;
+            return Some(self);
         }
         if i == self.take {
-            return self;
+            return Some(self);
         }
-        self.word(i, &word[..n])
+        Some(self.word(err, i, &word[..n]))
     }
 
     fn refused(self) -> Asked {
@@ -58,7 +67,7 @@ impl Asked {
         asked
     }
 
-    fn word(self, i: usize, word: &[u8]) -> Asked {
+    fn word(self, err: &impl Print, i: usize, word: &[u8]) -> Asked {
         let mut asked = self;
         if same(word, b"--hex") {
             asked.hex = true;
@@ -81,13 +90,13 @@ impl Asked {
             return asked;
         }
         if is_option(word) {
-            complain(b"no such option", word);
+            complain(err, b"no such option", word);
             return asked.refused();
         }
-        asked.plain(i, word)
+        asked.plain(err, i, word)
     }
 
-    fn plain(self, i: usize, word: &[u8]) -> Asked {
+    fn plain(self, err: &impl Print, i: usize, word: &[u8]) -> Asked {
         let mut asked = self;
         if asked.command == 0 {
             asked.command = i;
@@ -97,7 +106,7 @@ impl Asked {
             asked.file = i;
             return asked;
         }
-        complain(b"one word too many", word);
+        complain(err, b"one word too many", word);
         asked.refused()
     }
 }
@@ -118,12 +127,12 @@ fn is_option(word: &[u8]) -> bool {
 }
 
 // A message about a word.
-pub fn complain(message: &[u8], word: &[u8]) {
-    io::write_all(STDERR_FILENO, b"bogslipper: ");
-    io::write_all(STDERR_FILENO, message);
-    io::write_all(STDERR_FILENO, b": ");
-    io::write_all(STDERR_FILENO, word);
-    io::write_all(STDERR_FILENO, b"\n");
+pub fn complain(err: &impl Print, message: &[u8], word: &[u8]) {
+    stream::write_all(err, b"bogslipper: ");
+    stream::write_all(err, message);
+    stream::write_all(err, b": ");
+    stream::write_all(err, word);
+    stream::write_all(err, b"\n");
 }
 
 pub fn same(a: &[u8], b: &[u8]) -> bool {
@@ -147,15 +156,16 @@ pub enum Count {
 }
 
 // The number that an argument gives, or another where there is no such argument.
-pub fn number(place: usize, otherwise: usize) -> Count {
+pub fn number(rt: &impl Env, err: &impl Print, place: usize, otherwise: usize) -> Count {
     if place == 0 {
         return Count::Is(otherwise);
     }
-    let mut word = io::buffer();
-    let n = os::arg(place, &mut word);
+    let mut word = [0u8; LONGEST];
+    let n = rt.arg(place, &mut word).unwrap_or(0);
     let count = decimal(&word[..n]);
     if let Count::Wrong = count {
         complain(
+            err,
             b"--skip and --take want a number of bytes, at most 9999999, and not",
             &word[..n],
         );

@@ -1,9 +1,8 @@
 // `bogslipper twcc`: a TWCC block's header, then its entries.
 use crate::line::LONGEST;
-use crate::{line, words};
+use crate::{line, stream, words};
 use arrival::{Arrival, Arrivals, Begun};
 use kinds::{Seq, Tick};
-use libc::STDOUT_FILENO;
 use twcc::Status;
 use twcc_read::{Listed, Reading};
 
@@ -11,23 +10,23 @@ use twcc_read::{Listed, Reading};
 const MOST: usize = 65535;
 
 // Whether nothing was refused.
-pub fn report(block: &[u8]) -> bool {
+pub fn report(out: &impl Print, block: &[u8]) -> bool {
     let mut list = [0i32; MOST];
     match twcc_read::read(block, &mut list) {
         Reading::Block(listed) => {
-            summary(listed);
-            entries(&list, listed);
+            summary(out, listed);
+            entries(out, &list, listed);
             true
         }
         Reading::No(r) => {
-            words::say(r);
+            words::say(out, r);
             false
         }
     }
 }
 
 // The header, and how many of the statuses that it counts are listed.
-fn summary(listed: Listed) {
+fn summary(out: &impl Print, listed: Listed) {
     let header = listed.header;
     let time = header.time;
     let base = header.base;
@@ -39,7 +38,7 @@ fn summary(listed: Listed) {
     let p = line::labelled(&mut line, p, b", time ", count(time.0));
     let p = line::labelled(&mut line, p, b" (", milliseconds(time.0));
     let p = line::text(&mut line, p, b" ms)");
-    line::write(line, p, STDOUT_FILENO);
+    line::write(line, p, out);
 }
 
 fn short(n: u16) -> u64 {
@@ -58,17 +57,17 @@ fn milliseconds(time: u32) -> u64 {
     64 * (time as u64)
 }
 
-fn entries(list: &[i32], listed: Listed) {
+fn entries(out: &impl Print, list: &[i32], listed: Listed) {
     let header = listed.header;
     match Arrivals::of(header.time) {
-        Begun::Arrivals(arrivals) => arrived(list, listed, arrivals),
-        Begun::No(r) => words::say(r),
+        Begun::Arrivals(arrivals) => arrived(out, list, listed, arrivals),
+        Begun::No(r) => words::say(out, r),
     }
 }
 
-fn arrived(list: &[i32], listed: Listed, first: Arrivals) {
-    io::write_all(
-        STDOUT_FILENO,
+fn arrived(out: &impl Print, list: &[i32], listed: Listed, first: Arrivals) {
+    stream::write_all(
+        out,
         b" number  status         delta         ticks    milliseconds\n",
     );
     let header = listed.header;
@@ -81,7 +80,7 @@ fn arrived(list: &[i32], listed: Listed, first: Arrivals) {
             let word = list[i];
             let met = arrivals.next(word);
             let arrival = met.arrival;
-            entry(number, word, arrival);
+            entry(out, number, word, arrival);
             arrivals = met.next;
         }
         number = number.next();
@@ -89,12 +88,12 @@ fn arrived(list: &[i32], listed: Listed, first: Arrivals) {
     }
 }
 
-fn entry(number: Seq, word: i32, arrival: Arrival) {
+fn entry(out: &impl Print, number: Seq, word: i32, arrival: Arrival) {
     let mut line = [0u8; LONGEST];
     let p = line::number(&mut line, 0, short(number.0), 7);
     let p = line::text(&mut line, p, b"  ");
     let p = status(&mut line, p, word, arrival);
-    line::write(line, p, STDOUT_FILENO);
+    line::write(line, p, out);
 }
 
 fn status(line: &mut [u8; LONGEST], at: usize, word: i32, arrival: Arrival) -> usize {

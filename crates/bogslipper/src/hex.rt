@@ -2,8 +2,7 @@
 // comment.
 use crate::input::Input;
 use crate::line::LONGEST;
-use crate::{input, line};
-use libc::STDERR_FILENO;
+use crate::{input, line, stream};
 
 // What a byte of the text is.
 #[derive(Clone, Copy)]
@@ -118,7 +117,7 @@ fn joined(high: u8, low: u8) -> u8 {
 }
 
 // The bytes that the first `size` bytes of text stand for, in place of them. Says what is wrong with it.
-pub fn decode(text: &mut [u8], size: usize, path: &[u8]) -> Input {
+pub fn decode(err: &impl Print, text: &mut [u8], size: usize, path: &[u8]) -> Input {
     let mut place = Place {
         line: 1,
         comment: false,
@@ -131,14 +130,14 @@ pub fn decode(text: &mut [u8], size: usize, path: &[u8]) -> Input {
         let byte = at(text, i);
         place = place.after(byte);
         if place.is_wrong() {
-            no_digit(path, place.line, byte);
+            no_digit(err, path, place.line, byte);
             return Input::Trouble;
         }
         have = put(text, have, place);
         i += 1;
     }
     if place.high != NONE {
-        odd(path);
+        odd(err, path);
         return Input::Trouble;
     }
     Input::Bytes(have)
@@ -161,14 +160,14 @@ fn put(text: &mut [u8], have: usize, place: Place) -> usize {
     have
 }
 
-fn no_digit(path: &[u8], number: u64, byte: u8) {
-    input::trouble(path);
+fn no_digit(err: &impl Print, path: &[u8], number: u64, byte: u8) {
+    input::trouble(err, path);
     let mut line = [0u8; LONGEST];
     let p = line::labelled(&mut line, 0, b"line ", number);
     let p = line::text(&mut line, p, b": ");
     let p = shown(&mut line, p, byte);
     let p = line::text(&mut line, p, b" is no hex digit");
-    line::write(line, p, STDERR_FILENO);
+    line::write(line, p, err);
 }
 
 // A byte as a character, or as its number where it has none.
@@ -184,7 +183,7 @@ fn shown(line: &mut [u8; LONGEST], at: usize, byte: u8) -> usize {
     line::put(line, p, b'\'')
 }
 
-fn odd(path: &[u8]) {
-    input::trouble(path);
-    io::write_all(STDERR_FILENO, b"an odd number of hex digits\n");
+fn odd(err: &impl Print, path: &[u8]) {
+    input::trouble(err, path);
+    stream::write_all(err, b"an odd number of hex digits\n");
 }

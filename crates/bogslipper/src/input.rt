@@ -1,7 +1,11 @@
 // What a report is about: the bytes of a file or of standard input.
 ghost use Rattle.std.specs.Prelude.{◌≡◌, length};
 
-use libc::{STDERR_FILENO, STDIN_FILENO};
+use crate::stream;
+use std::fmt::InlineText;
+use std::io::{Error, ErrorKind, Read};
+use std::rt::Files;
+use std::{fs, io, str};
 
 // The largest file that is read: as long as the longest packet.
 const MOST: usize = 262144;
@@ -31,17 +35,27 @@ pub struct Place {
 }
 
 // Reads a file, or standard input where its name is "-", into the front of `bytes`.
-pub fn read(path: &[u8], bytes: &mut [u8]) -> Input {
+pub fn read(
+    rt: &(impl Files + io::Input),
+    err: &impl Print,
+    path: &[u8],
+    bytes: &mut [u8],
+) -> Input {
     if is_dash(path) {
-        return from(STDIN_FILENO, path, bytes);
+        return from(&mut rt.reader(), err, path, bytes);
     }
-    let fd = os::open_read(path);
-    if fd < 0 {
-        return failed(path);
+    match open(rt, path) {
+        Ok(mut file) => from(&mut file, err, path, bytes),
+        Err(e) => failed(err, path, e),
     }
-    let input = from(fd, path, bytes);
-    libc::close(fd);
-    input
+}
+
+// Opens a file. A name has to be UTF-8.
+fn open<R: Files>(rt: &R, path: &[u8]) -> io::Result<R::File> {
+    match str::from_utf8(path) {
+        Ok(path) => fs::open(rt, path),
+        Err(_) => Err(Error::from(ErrorKind::InvalidFilename)),
+    }
 }
 
 fn is_dash(path: &[u8]) -> bool {
@@ -51,68 +65,73 @@ fn is_dash(path: &[u8]) -> bool {
     false
 }
 
-fn failed(path: &[u8]) -> Input {
-    io::write_all(STDERR_FILENO, b"bogslipper: ");
-    os::fail(path);
+fn failed(err: &impl Print, path: &[u8], e: Error) -> Input {
+    let text = InlineText::<128>::of(e);
+    trouble(err, path);
+    stream::write_all(err, without_number(text.as_str()).as_bytes());
+    stream::write_all(err, b"\n");
     Input::Trouble
 }
 
+// The system's words for an error, without its number behind them.
+fn without_number(text: &str) -> &str {
+    match text.split_once(" (os error ") {
+        Some((words, _)) => words,
+        None => text,
+    }
+}
+
 // The start of a message about a file.
-pub fn trouble(path: &[u8]) {
-    io::write_all(STDERR_FILENO, b"bogslipper: ");
-    io::write_all(STDERR_FILENO, path);
-    io::write_all(STDERR_FILENO, b": ");
+pub fn trouble(err: &impl Print, path: &[u8]) {
+    stream::write_all(err, b"bogslipper: ");
+    stream::write_all(err, path);
+    stream::write_all(err, b": ");
 }
 
 #[derive(Clone, Copy)]
 enum Got {
     More(usize),
     End,
-    Failed,
+    Failed(Error),
 }
 
 // Reads once, behind the bytes so far.
-fn piece(fd: i32, bytes: &mut [u8], have: usize) -> Got {
+fn piece(file: &mut impl Read, bytes: &mut [u8], have: usize) -> Got {
     if bytes.len() <= have {
         return Got::End;
     }
-    let part = &mut bytes[have..];
-    let got = libc::read(fd, part);
-    if got < 0 {
-        return Got::Failed;
+    match file.read(&mut bytes[have..]) {
+        Ok(0) => Got::End,
+        Ok(n) => Got::More(have + n),
+        Err(e) => Got::Failed(e),
     }
-    let n = io::count(got, part);
-    if n == 0 {
-        return Got::End;
-    }
-    Got::More(have + n)
 }
 
 // All that can be read. Each turn but the last reads a byte or more, so the turns suffice.
-fn from(fd: i32, path: &[u8], bytes: &mut [u8]) -> Input {
+fn from(file: &mut impl Read, err: &impl Print, path: &[u8], bytes: &mut [u8]) -> Input {
     let mut have = 0;
     let mut turns = bytes.len();
     while 0 < turns {
         turns -= 1;
-        match piece(fd, bytes, have) {
+        match piece(file, bytes, have) {
             Got::More(n) => {
                 have = n;
             }
             Got::End => {
-                return within(path, have);
+                return within(err, path, have);
             }
-            Got::Failed => {
-                return failed(path);
+            Got::Failed(e) => {
+                return failed(err, path, e);
             }
         }
     }
-    within(path, have)
+    within(err, path, have)
 }
 
-fn within(path: &[u8], have: usize) -> Input {
+fn within(err: &impl Print, path: &[u8], have: usize) -> Input {
     if MOST < have {
-        trouble(path);
-        io::write_all(STDERR_FILENO, b"larger than 262144 bytes\n");
+        trouble(err, path);
+        stream::write_all(err, b"larger than 262144 bytes\n");
         return Input::Trouble;
     }
     Input::Bytes(have)

@@ -1,5 +1,7 @@
 // A line of text: pieces are put one after another into an array, and one call writes it. What would pass the array's end
 // falls away. Each function answers the place after its piece.
+use crate::stream;
+use std::fmt::InlineText;
 
 pub const LONGEST: usize = 200;
 
@@ -45,9 +47,8 @@ pub fn right(line: &mut [u8; LONGEST], at: usize, words: &[u8], width: usize) ->
 }
 
 pub fn number(line: &mut [u8; LONGEST], at: usize, n: u64, width: usize) -> usize {
-    let mut digits = [0u8; 20];
-    let k = io::decimal(n, &mut digits);
-    right(line, at, &digits[..k], width)
+    let digits = InlineText::<20>::of(n);
+    right(line, at, digits.as_str().as_bytes(), width)
 }
 
 // Words and a number.
@@ -71,9 +72,9 @@ pub fn copy(
 }
 
 // Writes the line, and ends it.
-pub fn write(line: [u8; LONGEST], at: usize, fd: i32) {
+pub fn write(line: [u8; LONGEST], at: usize, stream: &impl Print) {
     if at <= LONGEST {
-        io::write_all(fd, &line[..at]);
+        stream::write_all(stream, &line[..at]);
     }
-    io::write_all(fd, b"\n");
+    stream::write_all(stream, b"\n");
 }

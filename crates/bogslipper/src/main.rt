@@ -1,6 +1,7 @@
 // The command `bogslipper`: reports on RTCP compounds, generic NACKs and TWCC blocks. It reads and prints; every answer is
 // the libraries'.
 #![tactic(auto)]
+
 mod ask;
 mod entries;
 mod help;
@@ -9,11 +10,15 @@ mod input;
 mod line;
 mod numbers;
 mod packets;
+mod stream;
 mod words;
 
 use ask::{Asked, Count};
 use input::{Input, Place};
-use libc::{STDERR_FILENO, STDOUT_FILENO};
+use std::io::Write;
+use std::os::unix::fs::MetadataExt;
+use std::rt::{Env, Files};
+use std::{fs, io};
 
 // Answered, refused, and trouble with the words or the file.
 const ANSWERED: u8 = b'0';
@@ -22,38 +27,48 @@ const REFUSED: u8 = b'1';
 
 const TROUBLE: u8 = b'2';
 
-// The descriptor that takes the exit status, where --status asks for it: a program of this language has none of its own.
-const STATUS_FILENO: i32 = 3;
+// The descriptor that takes the exit status, where --status asks for it: the program's own is 0.
+const STATUS_FILE: &str = "/dev/fd/3";
 
-fn main() {
-    let asked = ask::ask();
-    let status = answer(asked);
+fn main(rt: HostRuntime) {
+    let err = rt.stderr();
+    let asked = ask::ask(&rt, &err);
+    let status = answer(&rt, &err, asked);
     if asked.status {
-        io::write_all(STATUS_FILENO, &[status]);
+        let _ = hand_on(&rt, status);
     }
 }
 
-fn answer(asked: Asked) -> u8 {
+// Writes the status where the descriptor is open for writing, which the mode of its link says.
+fn hand_on(rt: &impl Files, status: u8) -> io::Result<()> {
+    if fs::symlink_metadata(rt, STATUS_FILE)?.mode() & 0o200 == 0 {
+        return Ok(());
+    }
+    let mut file = fs::OpenOptions::new().append(true).open(rt, STATUS_FILE)?;
+    file.write_all(&[status])
+}
+
+fn answer(rt: &(impl Env + Files + io::Input + Print), err: &impl Print, asked: Asked) -> u8 {
     if asked.help {
-        help::write(STDOUT_FILENO);
+        help::write(rt);
         return ANSWERED;
     }
     if asked.wrong {
-        help::hint();
+        help::hint(err);
         return TROUBLE;
     }
     if asked.command == 0 {
-        help::write(STDERR_FILENO);
+        help::write(err);
         return TROUBLE;
     }
-    match asked_for(asked.command) {
-        Command::About(report) => about(asked, report),
+    match asked_for(rt, err, asked.command) {
+        Command::About(report) => about(rt, err, asked, report),
         Command::Help => {
-            help::write(STDOUT_FILENO);
+            help::write(rt);
             ANSWERED
         }
         Command::None => {
-            help::hint();
+            help::hint(err);
             TROUBLE
         }
     }
@@ -74,13 +89,13 @@ enum Command {
 }
 
 // The command that an argument names. Says so where there is none.
-fn asked_for(place: usize) -> Command {
-    let mut word = io::buffer();
-    let n = os::arg(place, &mut word);
-    named(&word[..n])
+fn asked_for(rt: &impl Env, err: &impl Print, place: usize) -> Command {
+    let mut word = [0u8; ask::LONGEST];
+    let n = rt.arg(place, &mut word).unwrap_or(0);
+    named(err, &word[..n])
 }
 
-fn named(word: &[u8]) -> Command {
+fn named(err: &impl Print, word: &[u8]) -> Command {
     if ask::same(word, b"compound") {
         return Command::About(Report::Compound);
     }
@@ -93,35 +108,58 @@ fn named(word: &[u8]) -> Command {
     if ask::same(word, b"help") {
         return Command::Help;
     }
-    ask::complain(b"no such command", word);
+    ask::complain(err, b"no such command", word);
     Command::None
 }
 
 // A report on the file that is asked for.
-fn about(asked: Asked, report: Report) -> u8 {
+fn about(
+    rt: &(impl Env + Files + io::Input + Print),
+    err: &impl Print,
+    asked: Asked,
+    report: Report,
+) -> u8 {
     if asked.file == 0 {
-        io::write_all(STDERR_FILENO, b"bogslipper: no FILE\n");
-        help::hint();
+        stream::write_all(err, b"bogslipper: no FILE\n");
+        help::hint(err);
         return TROUBLE;
     }
-    let Count::Is(skip) = ask::number(asked.skip, 0) else {
+    let Count::Is(skip) = ask::number(rt, err, asked.skip, 0) else {
         return TROUBLE;
     };
-    let Count::Is(take) = ask::number(asked.take, input::ROOM) else {
+    let Count::Is(take) = ask::number(rt, err, asked.take, input::ROOM) else {
         return TROUBLE;
     };
-    named_file(report, asked, skip, take)
+    named_file(rt, err, report, asked, skip, take)
 }
 
-fn named_file(report: Report, asked: Asked, skip: usize, take: usize) -> u8 {
-    let mut path = io::buffer();
-    let n = os::arg(asked.file, &mut path);
+fn named_file(
+    rt: &(impl Env + Files + io::Input + Print),
+    err: &impl Print,
+    report: Report,
+    asked: Asked,
+    skip: usize,
+    take: usize,
+) -> u8 {
+    let mut path = [0u8; ask::LONGEST];
+    let n = rt.arg(asked.file, &mut path).unwrap_or(0);
     let mut bytes = input::room();
-    within(report, &path[..n], asked.hex, skip, take, &mut bytes)
+    within(
+        rt,
+        err,
+        report,
+        &path[..n],
+        asked.hex,
+        skip,
+        take,
+        &mut bytes,
+    )
 }
 
 // A report on the part of a file that --skip and --take leave. `bytes` is room for the file.
 fn within(
+    rt: &(impl Files + io::Input + Print),
+    err: &impl Print,
     report: Report,
     path: &[u8],
     hex: bool,
@@ -129,30 +167,36 @@ fn within(
     take: usize,
     bytes: &mut [u8],
 ) -> u8 {
-    let Input::Bytes(size) = read(path, hex, bytes) else {
+    let Input::Bytes(size) = read(rt, err, path, hex, bytes) else {
         return TROUBLE;
     };
     let whole = octets::lesser(size, bytes.len());
     let start = octets::lesser(skip, whole);
     let end = start + octets::lesser(take, whole - start);
-    print(report, &bytes[start..end], Place { hex, start })
+    print(rt, report, &bytes[start..end], Place { hex, start })
 }
 
-fn read(path: &[u8], hex: bool, bytes: &mut [u8]) -> Input {
-    let Input::Bytes(size) = input::read(path, bytes) else {
+fn read(
+    rt: &(impl Files + io::Input),
+    err: &impl Print,
+    path: &[u8],
+    hex: bool,
+    bytes: &mut [u8],
+) -> Input {
+    let Input::Bytes(size) = input::read(rt, err, path, bytes) else {
         return Input::Trouble;
     };
     if hex {
-        return hex::decode(bytes, size, path);
+        return hex::decode(err, bytes, size, path);
     }
     Input::Bytes(size)
 }
 
-fn print(report: Report, bytes: &[u8], place: Place) -> u8 {
+fn print(out: &impl Print, report: Report, bytes: &[u8], place: Place) -> u8 {
     let fine = match report {
-        Report::Compound => packets::report(bytes, place),
-        Report::Nack => numbers::report(bytes),
-        Report::Twcc => entries::report(bytes),
+        Report::Compound => packets::report(out, bytes, place),
+        Report::Nack => numbers::report(out, bytes),
+        Report::Twcc => entries::report(out, bytes),
     };
     if fine { ANSWERED } else { REFUSED }
 }

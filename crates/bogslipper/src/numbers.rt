@@ -1,18 +1,17 @@
 // `bogslipper nack`: the numbers that a generic NACK's entries name.
 use crate::line::LONGEST;
-use crate::{line, words};
-use libc::STDOUT_FILENO;
+use crate::{line, stream, words};
 use refusal::Number;
 
 // Whether nothing was refused. Entries are read one by one, so that seventeen places are room enough.
-pub fn report(bytes: &[u8]) -> bool {
-    summary(bytes.len());
-    io::write_all(STDOUT_FILENO, b" entry  number\n");
+pub fn report(out: &impl Print, bytes: &[u8]) -> bool {
+    summary(out, bytes.len());
+    stream::write_all(out, b" entry  number\n");
     let mut entry = 0;
     let mut at = 0;
     while 4 <= bytes.len() - at {
         let end = at + 4;
-        if !list(&bytes[at..end], entry) {
+        if !list(out, &bytes[at..end], entry) {
             return false;
         }
         at = end;
@@ -21,42 +20,42 @@ pub fn report(bytes: &[u8]) -> bool {
     true
 }
 
-fn summary(size: usize) {
+fn summary(out: &impl Print, size: usize) {
     let mut line = [0u8; LONGEST];
     let p = line::labelled(&mut line, 0, b"bytes ", size as u64);
     let p = line::labelled(&mut line, p, b", entries ", (size / 4) as u64);
     let p = line::labelled(&mut line, p, b", ignored at the end ", (size % 4) as u64);
-    line::write(line, p, STDOUT_FILENO);
+    line::write(line, p, out);
 }
 
 // The numbers of one entry.
-fn list(bytes: &[u8], entry: usize) -> bool {
+fn list(out: &impl Print, bytes: &[u8], entry: usize) -> bool {
     let mut numbers = [0u16; 17];
     match nack_read::read(bytes, &mut numbers) {
         Number::Is(count) => {
-            each(&numbers, count, entry);
+            each(out, &numbers, count, entry);
             true
         }
         Number::No(r) => {
-            words::say(r);
+            words::say(out, r);
             false
         }
     }
 }
 
-fn each(numbers: &[u16], count: usize, entry: usize) {
+fn each(out: &impl Print, numbers: &[u16], count: usize, entry: usize) {
     let mut i = 0;
     while i < count {
         if i < numbers.len() {
-            number(numbers[i], entry);
+            number(out, numbers[i], entry);
         }
         i += 1;
     }
 }
 
-fn number(number: u16, entry: usize) {
+fn number(out: &impl Print, number: u16, entry: usize) {
     let mut line = [0u8; LONGEST];
     let p = line::number(&mut line, 0, entry as u64, 6);
     let p = line::number(&mut line, p, number as u64, 8);
-    line::write(line, p, STDOUT_FILENO);
+    line::write(line, p, out);
 }

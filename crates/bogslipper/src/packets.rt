@@ -1,9 +1,8 @@
 // `bogslipper compound`: the first pass's verdict, then the packets that the walk finds.
 use crate::input::{Place, ROOM};
 use crate::line::LONGEST;
-use crate::{line, words};
+use crate::{line, stream, words};
 use compound::{Alone, Found, Packet};
-use libc::STDOUT_FILENO;
 use refusal::{Checked, Number, Refusal};
 use utils::Padded;
 
@@ -16,29 +15,29 @@ enum Block {
 }
 
 // Whether nothing was refused.
-pub fn report(bytes: &[u8], place: Place) -> bool {
-    let passed = verdict(bytes, place);
-    heading();
-    let walked = walk(bytes);
+pub fn report(out: &impl Print, bytes: &[u8], place: Place) -> bool {
+    let passed = verdict(out, bytes, place);
+    heading(out);
+    let walked = walk(out, bytes);
     passed && walked
 }
 
-fn verdict(bytes: &[u8], place: Place) -> bool {
+fn verdict(out: &impl Print, bytes: &[u8], place: Place) -> bool {
     let mut line = [0u8; LONGEST];
     let p = line::text(&mut line, 0, b"first pass: ");
     match compound::parse(bytes) {
         Checked::Fine => {
             let p = line::labelled(&mut line, p, b"accepted, ", bytes.len() as u64);
             let p = line::text(&mut line, p, b" bytes");
-            line::write(line, p, STDOUT_FILENO);
+            line::write(line, p, out);
             true
         }
         Checked::No(r) => {
             match r {
-                Refusal::InvalidPadding => misfit(line, p, bytes, place),
+                Refusal::InvalidPadding => misfit(out, line, p, bytes, place),
                 _ => {
                     let p = words::refused(&mut line, p, r);
-                    line::write(line, p, STDOUT_FILENO);
+                    line::write(line, p, out);
                 }
             }
             false
@@ -70,21 +69,21 @@ fn padded(found: Found) -> bool {
 }
 
 // What is wrong with the padding of a packet, and how its block is read all the same.
-fn misfit(line: [u8; LONGEST], p: usize, bytes: &[u8], place: Place) {
+fn misfit(out: &impl Print, line: [u8; LONGEST], p: usize, bytes: &[u8], place: Place) {
     let mut line = line;
     let at = first_padded(bytes);
     let rest = from(bytes, at);
     let p = line::labelled(&mut line, p, b"refused 5: the packet at ", at as u64);
     if field(utils::parse_length(rest)) < rest.len() as u64 {
         let p = line::text(&mut line, p, b" has padding and is not the last");
-        line::write(line, p, STDOUT_FILENO);
+        line::write(line, p, out);
         return;
     }
     let p = line::text(&mut line, p, b" has ");
     let p = misfit_count(&mut line, p, rest);
-    line::write(line, p, STDOUT_FILENO);
+    line::write(line, p, out);
     match compound::record_of(rest) {
-        Alone::Packet(p) => read_alone(bytes, rest, p, place),
+        Alone::Packet(p) => read_alone(out, bytes, rest, p, place),
         Alone::No(_) => {}
     }
 }
@@ -109,7 +108,7 @@ fn misfit_count(line: &mut [u8; LONGEST], p: usize, packet: &[u8]) -> usize {
 
 // How the block in the last packet is read all the same, from the same FILE, where its padding count is wrong only in being no
 // multiple of 4.
-fn read_alone(bytes: &[u8], packet: &[u8], p: Packet, place: Place) {
+fn read_alone(out: &impl Print, bytes: &[u8], packet: &[u8], p: Packet, place: Place) {
     if p.padding % 4 == 0 {
         return;
     }
@@ -122,13 +121,13 @@ fn read_alone(bytes: &[u8], packet: &[u8], p: Packet, place: Place) {
     let skip = octets::lesser(place.start, ROOM) + (bytes.len() - packet.len()) + 12;
     let take = p.body - 8;
     match block_in(packet) {
-        Block::Nack => block_alone(b"nack", place.hex, skip, take),
-        Block::Twcc => block_alone(b"twcc", place.hex, skip, take),
+        Block::Nack => block_alone(out, b"nack", place.hex, skip, take),
+        Block::Twcc => block_alone(out, b"twcc", place.hex, skip, take),
         Block::Nothing => {}
     }
 }
 
-fn block_alone(command: &[u8], hex: bool, skip: usize, take: usize) {
+fn block_alone(out: &impl Print, command: &[u8], hex: bool, skip: usize, take: usize) {
     let mut line = [0u8; LONGEST];
     let p = line::text(&mut line, 0, b"its block alone: bogslipper ");
     let p = line::text(&mut line, p, command);
@@ -140,28 +139,28 @@ fn block_alone(command: &[u8], hex: bool, skip: usize, take: usize) {
     let p = line::labelled(&mut line, p, b" --skip ", skip as u64);
     let p = line::labelled(&mut line, p, b" --take ", take as u64);
     let p = line::text(&mut line, p, b" FILE");
-    line::write(line, p, STDOUT_FILENO);
+    line::write(line, p, out);
 }
 
-fn heading() {
-    io::write_all(
-        STDOUT_FILENO,
+fn heading(out: &impl Print) {
+    stream::write_all(
+        out,
         b" offset  type  name   count  length    body  padding  holds\n",
     );
 }
 
 // The packets in turn, up to the end or a refusal; whether it was the end.
-fn walk(bytes: &[u8]) -> bool {
+fn walk(out: &impl Print, bytes: &[u8]) -> bool {
     let mut at = 0;
     while at < bytes.len() {
         let walked = compound::walk_step(bytes, at);
         let found = walked.found;
         let next = walked.next;
         match found {
-            Found::Packet(p) => packet(compound::walk_part(bytes, at), p),
+            Found::Packet(p) => packet(out, compound::walk_part(bytes, at), p),
             Found::Over => return true,
             Found::No(r) => {
-                stopped(bytes, at, r);
+                stopped(out, bytes, at, r);
                 return false;
             }
         }
@@ -171,7 +170,7 @@ fn walk(bytes: &[u8]) -> bool {
 }
 
 // Why the walk ended. A packet that is whole, and refused for its padding alone, has no row: its fields are said here.
-fn stopped(bytes: &[u8], at: usize, r: Refusal) {
+fn stopped(out: &impl Print, bytes: &[u8], at: usize, r: Refusal) {
     let mut line = [0u8; LONGEST];
     let p = line::labelled(&mut line, 0, b"walk at ", at as u64);
     let p = line::text(&mut line, p, b": ");
@@ -179,7 +178,7 @@ fn stopped(bytes: &[u8], at: usize, r: Refusal) {
         Refusal::InvalidPadding => misfit_packet(&mut line, p, from(bytes, at)),
         _ => words::refused(&mut line, p, r),
     };
-    line::write(line, p, STDOUT_FILENO);
+    line::write(line, p, out);
 }
 
 fn misfit_packet(line: &mut [u8; LONGEST], p: usize, packet: &[u8]) -> usize {
@@ -194,7 +193,7 @@ fn misfit_packet(line: &mut [u8; LONGEST], p: usize, packet: &[u8]) -> usize {
 }
 
 // A packet that the walk found, and its record.
-fn packet(packet: &[u8], found: Packet) {
+fn packet(out: &impl Print, packet: &[u8], found: Packet) {
     let mut line = [0u8; LONGEST];
     let kind = field(utils::parse_packet_type(packet));
     let count = field(utils::parse_count(packet));
@@ -208,7 +207,7 @@ fn packet(packet: &[u8], found: Packet) {
     let p = padding(&mut line, p, found.padding);
     let p = line::text(&mut line, p, b"  ");
     let p = holds(&mut line, p, packet);
-    line::write(line, p, STDOUT_FILENO);
+    line::write(line, p, out);
 }
 
 // A field of a packet that the walk found, which has its header.

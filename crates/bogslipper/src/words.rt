@@ -1,7 +1,6 @@
 // Refusals in words.
 use crate::line;
 use crate::line::LONGEST;
-use libc::STDOUT_FILENO;
 use refusal::{Refusal, Told};
 
 // "refused 15: output lacks room: 8 needed, 4 present": the number, what it means, and its values.
@@ -111,10 +110,10 @@ fn on_a_list(line: &mut [u8; LONGEST], at: usize, told: Told) -> usize {
 }
 
 // A line with a refusal alone.
-pub fn say(r: Refusal) {
+pub fn say(out: &impl Print, r: Refusal) {
     let mut line = [0u8; LONGEST];
     let p = refused(&mut line, 0, r);
-    line::write(line, p, STDOUT_FILENO);
+    line::write(line, p, out);
 }
 
 // A refusal's one value between words.
