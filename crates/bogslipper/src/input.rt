@@ -50,11 +50,10 @@ pub fn read(
     }
 }
 
-// Opens a file. A name has to be UTF-8.
 fn open<R: Files>(rt: &R, path: &[u8]) -> io::Result<R::File> {
     match str::from_utf8(path) {
         Ok(path) => fs::open(rt, path),
-        Err(_) => Err(Error::from(ErrorKind::InvalidFilename)),
+        Err(_) => Err(Error::new(ErrorKind::InvalidFilename, "a name that is not UTF-8")),
     }
 }
 
