@@ -13,7 +13,7 @@ const MOST: usize = 262144;
 // One place more, so that a larger file is noticed.
 pub const ROOM: usize = MOST + 1;
 
-// Room for a file. The promise gives the length alone, which lending it as a slice needs.
+// Room for a file.
 pub fn room() -> [u8; ROOM]
     ensures { 262145 ≡ length result }
 {
