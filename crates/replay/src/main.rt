@@ -125,6 +125,7 @@ fn open_read<R: Files>(rt: &R, path: &[u8]) -> io::Result<R::File> {
 
 fn main(rt: HostRuntime) -> io::Result<()> {
     let mut path = room::for_path();
+    // Where there is no such argument, or no room for it, the name is empty, and no file has that.
     let length = rt.arg(1, &mut path).unwrap_or(0);
     let name = part(&path, 0, length);
     match open_read(&rt, name) {
