@@ -1,6 +1,7 @@
 // The C interface, as include/bogslipper.h declares it: the proved functions under plain names, each answer a struct of
 // numbers. An export promises what the function behind it promises.
 #![tactic(auto)]
+
 ghost use Rattle.std.specs.Prelude.{◌≡◌, [], ◌∷◌, pos};
 ghost use Rattle.octets.specs.Signed.{bits64};
 ghost use Rattle.refusal.specs.Number.{no};
@@ -103,43 +104,37 @@ fn said_number(answer: Number) -> Said
     }
 }
 
-#[unsafe(no_mangle)]
-pub extern "C" fn bog_version(packet: &[u8]) -> Said
+pub fn bog_version(packet: &[u8]) -> Said
     ensures { Answers (number (field packet.now (version_of packet.now))) result }
 {
     said_number(utils::parse_version(packet))
 }
 
-#[unsafe(no_mangle)]
-pub extern "C" fn bog_padding_bit(packet: &[u8]) -> Said
+pub fn bog_padding_bit(packet: &[u8]) -> Said
     ensures { Answers (number (field packet.now (padding_bit_of packet.now))) result }
 {
     said_number(utils::parse_padding_bit(packet))
 }
 
-#[unsafe(no_mangle)]
-pub extern "C" fn bog_count(packet: &[u8]) -> Said
+pub fn bog_count(packet: &[u8]) -> Said
     ensures { Answers (number (field packet.now (count_of packet.now))) result }
 {
     said_number(utils::parse_count(packet))
 }
 
-#[unsafe(no_mangle)]
-pub extern "C" fn bog_packet_type(packet: &[u8]) -> Said
+pub fn bog_packet_type(packet: &[u8]) -> Said
     ensures { Answers (number (field packet.now (type_of packet.now))) result }
 {
     said_number(utils::parse_packet_type(packet))
 }
 
-#[unsafe(no_mangle)]
-pub extern "C" fn bog_length(packet: &[u8]) -> Said
+pub fn bog_length(packet: &[u8]) -> Said
     ensures { Answers (number (field packet.now (length_of packet.now))) result }
 {
     said_number(utils::parse_length(packet))
 }
 
-#[unsafe(no_mangle)]
-pub extern "C" fn bog_padding(packet: &[u8]) -> Said
+pub fn bog_padding(packet: &[u8]) -> Said
     ensures { Answers (padding (padding_byte packet.now)) result }
 {
     match utils::parse_padding(packet) {
@@ -149,29 +144,25 @@ pub extern "C" fn bog_padding(packet: &[u8]) -> Said
     }
 }
 
-#[unsafe(no_mangle)]
-pub extern "C" fn bog_check_packet(packet: &[u8], least: u64, packet_type: u8) -> Said
+pub fn bog_check_packet(packet: &[u8], least: u64, packet_type: u8) -> Said
     ensures { Answers (nothing (check_packet packet.now least packet_type)) result }
 {
     said_checked(utils::check_packet(packet, least as usize, packet_type))
 }
 
-#[unsafe(no_mangle)]
-pub extern "C" fn bog_compound_parse(bytes: &[u8]) -> Said
+pub fn bog_compound_parse(bytes: &[u8]) -> Said
     ensures { Answers (nothing (first_pass bytes.now)) result }
 {
     said_checked(compound::parse(bytes))
 }
 
-#[unsafe(no_mangle)]
-pub extern "C" fn bog_unknown_parse(packet: &[u8]) -> Said
+pub fn bog_unknown_parse(packet: &[u8]) -> Said
     ensures { Answers (nothing (unknown packet.now)) result }
 {
     said_checked(unknown::parse(packet))
 }
 
-#[unsafe(no_mangle)]
-pub extern "C" fn bog_walk_step(bytes: &[u8], offset: u64) -> Said
+pub fn bog_walk_step(bytes: &[u8], offset: u64) -> Said
     ensures { Answers (walk (walk_step bytes.now offset)) result }
 {
     let at = offset as usize;
@@ -192,8 +183,7 @@ pub extern "C" fn bog_walk_step(bytes: &[u8], offset: u64) -> Said
     }
 }
 
-#[unsafe(no_mangle)]
-pub extern "C" fn bog_unknown_write(
+pub fn bog_unknown_write(
     count: u8,
     packet_type: u8,
     body: &[u8],
@@ -205,29 +195,25 @@ pub extern "C" fn bog_unknown_write(
     said_number(unknown::write(count, packet_type, body, padding, out))
 }
 
-#[unsafe(no_mangle)]
-pub extern "C" fn bog_nack_add(store: &mut [u8], number: u16) -> Said
+pub fn bog_nack_add(store: &mut [u8], number: u16) -> Said
     ensures { AddedNack store.old number result store.new }
 {
     said_checked(nack_store::add(store, Seq(number)))
 }
 
-#[unsafe(no_mangle)]
-pub extern "C" fn bog_nack_read(bytes: &[u8], list: &mut [u16]) -> Said
+pub fn bog_nack_read(bytes: &[u8], list: &mut [u16]) -> Said
     ensures { ReadNack bytes.now list.old result list.new }
 {
     said_number(nack_read::read(bytes, list))
 }
 
-#[unsafe(no_mangle)]
-pub extern "C" fn bog_nack_write(store: &[u8], out: &mut [u8]) -> Said
+pub fn bog_nack_write(store: &[u8], out: &mut [u8]) -> Said
     ensures { WroteNack store.now out.old result out.new }
 {
     said_number(nack_write::write(store, out))
 }
 
-#[unsafe(no_mangle)]
-pub extern "C" fn bog_twcc_read(block: &[u8], list: &mut [i32]) -> Said
+pub fn bog_twcc_read(block: &[u8], list: &mut [i32]) -> Said
     ensures { ReadTwcc block.now list.old result list.new }
 {
     match twcc_read::read(block, list) {
@@ -270,8 +256,7 @@ fn plain(arrivals: Arrivals) -> State
     }
 }
 
-#[unsafe(no_mangle)]
-pub extern "C" fn bog_arrivals(time: u32) -> Said
+pub fn bog_arrivals(time: u32) -> Said
     ensures { Answers (started (begun time)) result }
 {
     match Arrivals::of(RefTime(time)) {
@@ -299,8 +284,7 @@ fn said_entry(met: Entry) -> Said
     }
 }
 
-#[unsafe(no_mangle)]
-pub extern "C" fn bog_arrivals_next(placed: bool, ticks: i64, word: i32) -> Said
+pub fn bog_arrivals_next(placed: bool, ticks: i64, word: i32) -> Said
     ensures { Answers (entry (next_arrival (cursor placed ticks) word)) result }
 {
     if placed {
@@ -320,8 +304,7 @@ fn said_written(answer: Written) -> Said
     }
 }
 
-#[unsafe(no_mangle)]
-pub extern "C" fn bog_twcc_write(
+pub fn bog_twcc_write(
     base: u16,
     time: u32,
     feedback: u8,

@@ -6,6 +6,13 @@ pub const TEXT: usize = 1048576;
 
 pub const CASE: usize = 655360;
 
+// The system's longest path, with the zero behind it.
+pub fn for_path() -> [u8; 4096]
+    ensures { 4096 ≡ length result }
+{
+    [0; 4096]
+}
+
 pub fn for_text() -> [u8; TEXT]
     ensures { 1048576 ≡ length result }
 {
