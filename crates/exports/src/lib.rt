@@ -1,5 +1,5 @@
-// The C interface, as include/bogslipper.h declares it: the proved functions under plain names, each answer a struct of
-// numbers. An export promises what the function behind it promises.
+// The calls of the C interface, as include/bogslipper.h declares them and `exports_c` exports them: the proved functions under
+// plain names, each answer a struct of numbers. A call promises what the function behind it promises.
 #![tactic(auto)]
 
 ghost use Rattle.std.specs.Prelude.{◌≡◌, [], ◌∷◌, pos};
