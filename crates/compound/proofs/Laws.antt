@@ -17,8 +17,9 @@ use Rattle.utils.specs.Check.{last_byte_of, padding_fits}
 use Rattle.compound.specs.Pass.{end_of, first_turn, turns_from, pass_by, first_pass}
 use Rattle.compound.specs.Record.{misfits, packet_at, AddsUp}
 use Rattle.compound.specs.Walk.{walk_step, step, over, packet, last, next_of, walk_next}
-use Rattle.compound.specs.Said.{said_walked}
+use Rattle.compound.specs.Said.{said_found, said_walked}
 use Rattle.compound.specs.Inner.{WordsBehind, is_usual}
+use Rattle.compound.specs.declared.Found.{Found}
 use Rattle.compound.specs.declared.Packet.{Packet}
 use Rattle.compound.specs.declared.Walked.{Walked}
 use Rattle.compound.proofs.Record.{SharedOut, shared_out}
@@ -271,6 +272,10 @@ walk-packet bytes at next p steps =
     go false false false false b₅ past own bad s = never (cc)
     go false false false true true past own bad s = never (cc)
     go false false false true false past own bad s = found past own (shared_out (drop at bytes) bad) (cc) (cc)
+
+-- what a step says, by what it found
+pub step_found : (bytes : List ℕ) (at : ℕ) (w : Walked) {f : Found} → said_walked w ≡ walk_step bytes at → w.found ≡ f → walk_step bytes at ≡ step (said_found f) w.next
+step_found bytes at w said is = sym said ∙ ap (λ (f : Found). step (said_found f) w.next) is
 
 -- every step before the end moves on, and none past it; so does the answer to it
 pub record Moves (bytes : List ℕ) (at next : ℕ) : Type 0 where

@@ -1,6 +1,7 @@
 use Prim.Native.Nat.{◌<◌}
 use lib.ListN.{get_or}
 use native.Mathlib.Omega.{arith}
+use borrow.Author.Rules.{rules}
 use Rattle.nack_store.proofs.Tallying.{tallying_start, tallying_turn, tallying_over}
 use Rattle.nack_store.proofs.count_members.Goals as goal
 
@@ -9,7 +10,7 @@ loop-at-init c = tallying_start _
 
 pub loop-at-preserved : goal.loop-at-preserved
 loop-at-preserved c =
-    let byte : get_or c.args.store.now c.loop-at.at 0 < 256 = omega (arith, c.shared_slice_known-1.given c.loop-at.at) in
+    let byte : get_or c.args.store.now c.loop-at.at 0 < 256 = search rules in
     tallying_turn byte (omega arith) c.loop-at.invariant
 
 pub returns : goal.returns

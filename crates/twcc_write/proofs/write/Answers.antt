@@ -14,6 +14,11 @@ use Rattle.twcc_write.specs.Stores.{Plannable}
 use Rattle.twcc_write.specs.Promise.{written}
 use Rattle.twcc_write.proofs.Joining.{lacked, suffices}
 use Rattle.twcc_write.proofs.write.Goals as goal
+use Rattle.twcc_write.proofs.write.Goals.{Else-needed-gt0}
+
+-- the block has room
+room : (c : Else-needed-gt0) → size_of (limit_of c.args.limit) c.args.list.now ≤ length c.args.out.now
+room c = suffices _ (size_of (limit_of c.args.limit) c.args.list.now) _ c.lacking-needed.ensures c.if-needed-gt0.false (omega arith)
 
 pub returns-then-count-gt-LATEST_TIME : goal.returns-then-count-gt-LATEST_TIME
 unfolding written
@@ -35,23 +40,21 @@ returns-then-smallest-lt8 c = refuses _ _ _ refl
 pub returns-then-needed-gt0 : goal.returns-then-needed-gt0
 unfolding written
 returns-then-needed-gt0 c = let size = size_of (limit_of c.args.limit) c.args.list.now in
-    let room = lacked (length c.args.out.now) size _ c.lacking-needed.ensures c.if-needed-gt0.true in
+    let lack = lacked (length c.args.out.now) size _ c.lacking-needed.ensures c.if-needed-gt0.true in
     refuses _ _ _ refl
-    (simp (le-ltb _ _ c.if-count-gt-LATEST_TIME.false, le-ltb _ _ c.if-list-gt-MOST_ENTRIES.false, ← c.first_bad-bad.ensures, le-ltb _ _ c.if-bad-list.false, ← c.least-smallest.ensures, le-ltb _ _ c.if-smallest-lt8.false, lt-ltb _ _ room.1, room.0))
+    (simp (le-ltb _ _ c.if-count-gt-LATEST_TIME.false, le-ltb _ _ c.if-list-gt-MOST_ENTRIES.false, ← c.first_bad-bad.ensures, le-ltb _ _ c.if-bad-list.false, ← c.least-smallest.ensures, le-ltb _ _ c.if-smallest-lt8.false, lt-ltb _ _ lack.1, lack.0))
 
 pub put_block-requires : goal.put_block-requires
 put_block-requires c =
     let plannable : Plannable c.args.list.now (limit_of c.args.limit) = let eight : 8 ≤ least_of (limit_of c.args.limit) = omega (arith, c.least-smallest.ensures, c.if-smallest-lt8.false) in
     record { short = c.if-list-gt-MOST_ENTRIES.false; eight = eight-within (limit_of c.args.limit) eight } in
-    let room : size_of (limit_of c.args.limit) c.args.list.now ≤ length c.args.out.now = suffices _ (size_of (limit_of c.args.limit) c.args.list.now) _ c.lacking-needed.ensures c.if-needed-gt0.false (omega arith) in
     let list = c.args.list.now in
     let fine : length list ≤ first_bad list = omega (arith, c.first_bad-bad.ensures, c.if-bad-list.false) in
-    record { fits = c.if-count-gt-LATEST_TIME.false; plannable = plannable; valid = none_bad list fine; room = room }
+    record { fits = c.if-count-gt-LATEST_TIME.false; plannable = plannable; valid = none_bad list fine; room = room (goal.at.put_block-requires c).Else-needed-gt0 }
 
 pub returns : goal.returns
 unfolding written
 returns c =
-    let room : size_of (limit_of c.args.limit) c.args.list.now ≤ length c.args.out.now = suffices _ (size_of (limit_of c.args.limit) c.args.list.now) _ c.lacking-needed.ensures c.if-needed-gt0.false (omega arith) in
     given
-    (simp (le-ltb _ _ c.if-count-gt-LATEST_TIME.false, le-ltb _ _ c.if-list-gt-MOST_ENTRIES.false, ← c.first_bad-bad.ensures, le-ltb _ _ c.if-bad-list.false, ← c.least-smallest.ensures, le-ltb _ _ c.if-smallest-lt8.false, le-ltb _ _ room))
+    (simp (le-ltb _ _ c.if-count-gt-LATEST_TIME.false, le-ltb _ _ c.if-list-gt-MOST_ENTRIES.false, ← c.first_bad-bad.ensures, le-ltb _ _ c.if-bad-list.false, ← c.least-smallest.ensures, le-ltb _ _ c.if-smallest-lt8.false, le-ltb _ _ (room (goal.at.returns c).Else-needed-gt0)))
     c.put_block.ensures

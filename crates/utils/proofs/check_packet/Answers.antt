@@ -5,6 +5,12 @@ use Rattle.refusal.specs.Outcome.{and_then}
 use Rattle.refusal.specs.Said.{said_checked}
 use Rattle.utils.specs.Check.{own_length, own_padding, check_packet}
 use Rattle.utils.proofs.check_packet.Goals as goal
+use Rattle.utils.proofs.check_packet.Goals.{Else-actual-packet_type}
+
+-- where all tests of this function pass
+rest : (c : Else-actual-packet_type) → check_packet c.args.packet.now c.args.least c.args.packet_type ≡ and_then (own_length c.args.packet.now) (λ _. own_padding c.args.packet.now)
+unfolding check_packet
+rest c = simp (le-ltb _ _ c.if-least-lt-SHORTEST.false, le-ltb _ _ c.if-least-gt-LONGEST.false, le-ltb _ _ c.if-packet-least.false, eq-eqb _ _ c.if-version-ne2.false, eq-eqb _ _ c.if-actual-packet_type.false)
 
 pub returns-then-least-lt-SHORTEST : goal.returns-then-least-lt-SHORTEST
 unfolding check_packet
@@ -29,11 +35,9 @@ returns-then-actual-packet_type c = simp (le-ltb _ _ c.if-least-lt-SHORTEST.fals
 pub returns-in-No : goal.returns-in-No
 unfolding check_packet
 returns-in-No c =
-    let rest : check_packet c.args.packet.now c.args.least c.args.packet_type ≡ and_then (own_length c.args.packet.now) (λ _. own_padding c.args.packet.now) = simp (le-ltb _ _ c.if-least-lt-SHORTEST.false, le-ltb _ _ c.if-least-gt-LONGEST.false, le-ltb _ _ c.if-packet-least.false, eq-eqb _ _ c.if-version-ne2.false, eq-eqb _ _ c.if-actual-packet_type.false) in
-    rw (rest, sym c.own_length.ensures ∙ ap said_checked c.in-No.is)
+    rw (rest (goal.at.returns-in-No c).Else-actual-packet_type, sym c.own_length.ensures ∙ ap said_checked c.in-No.is)
 
 pub returns-in-Fine : goal.returns-in-Fine
 unfolding check_packet
 returns-in-Fine c =
-    let rest : check_packet c.args.packet.now c.args.least c.args.packet_type ≡ and_then (own_length c.args.packet.now) (λ _. own_padding c.args.packet.now) = simp (le-ltb _ _ c.if-least-lt-SHORTEST.false, le-ltb _ _ c.if-least-gt-LONGEST.false, le-ltb _ _ c.if-packet-least.false, eq-eqb _ _ c.if-version-ne2.false, eq-eqb _ _ c.if-actual-packet_type.false) in
-    rw (rest, sym c.own_length.ensures ∙ ap said_checked c.in-Fine.is) c.own_padding.ensures
+    rw (rest (goal.at.returns-in-Fine c).Else-actual-packet_type, sym c.own_length.ensures ∙ ap said_checked c.in-Fine.is) c.own_padding.ensures

@@ -1,7 +1,9 @@
 -- By the cases.
 use mathlib.Core.Path.{sym, ap, ◌∙◌}
 use mir.Syntax.{w64}
+use mir.Val.{SFits}
 use mir.ValLaws.{to_z-of_z}
+use borrow.Author.Rules.{rules}
 use Rattle.arrival.specs.Overlay.{shown_at, shown_of}
 use Rattle.arrival.proofs.Arrival.shown.Goals as goal
 
@@ -19,7 +21,9 @@ returns-in-Unplaced c = sym (ap shown_of c.in-Unplaced.is)
 
 pub returns-in-At : goal.returns-in-At
 unfolding shown_of
-returns-in-At c = let tick = c.in-At.tick.0 in
+returns-in-At c =
+    let tick = c.in-At.tick.0 in
+    let fits : SFits w64 tick = search rules in
     c.at.ensures
-    ∙ ap shown_at (to_z-of_z w64 tick (record { sfits = c.struct_told-1.given.0.1 }))
+    ∙ ap shown_at (to_z-of_z w64 tick fits)
     ∙ sym (ap shown_of c.in-At.is)
