@@ -1,6 +1,7 @@
 //! Links `libexports.a`: the one in the folder that BOGSLIPPER_ARCHIVE names, else the one that the repository makes.
 
 use std::env;
+use std::fs;
 use std::path::{Path, PathBuf};
 use std::process::{exit, Command};
 
@@ -30,7 +31,13 @@ fn given(folder: &Path) -> PathBuf {
 /// The folder of the archive that `.ci/built` makes of the repository's crates, where it is out of date.
 fn made(repository: &Path) -> PathBuf {
     let crates = repository.join("crates");
-    println!("cargo:rerun-if-changed={}", crates.display());
+    println!(
+        "cargo:rerun-if-changed={}",
+        repository.join("crates.txt").display()
+    );
+    for source in sources(&crates) {
+        println!("cargo:rerun-if-changed={}", source.display());
+    }
     if !crates.join("exports").is_dir() {
         stop(&format!(
             "there is no crate `exports` in {}",
@@ -45,6 +52,15 @@ fn made(repository: &Path) -> PathBuf {
         Ok(output) => stop(&String::from_utf8_lossy(&output.stderr)),
         Err(error) => stop(&format!("`.ci/built archive` cannot be run: {error}")),
     }
+}
+
+/// What the archive is made of; `out` beside it is what `rt` writes.
+fn sources(crates: &Path) -> Vec<PathBuf> {
+    let folders = fs::read_dir(crates).into_iter().flatten().flatten();
+    folders
+        .flat_map(|folder| ["src", "specs", "proofs"].map(|part| folder.path().join(part)))
+        .filter(|source| source.is_dir())
+        .collect()
 }
 
 fn stop(why: &str) -> ! {
