@@ -14,6 +14,7 @@ use Rattle.twcc.specs.Status.{status_of}
 use Rattle.twcc.specs.declared.Status.{Status}
 use Rattle.twcc.specs.declared.Status.TheVariants.{Received, NotReceived, Truncated, Reserved, NoStatus}
 use Rattle.arrival.specs.Arrivals.{delta_of, clear, sum_of, readable, at, arrival_behind, arrivals_behind, arrivals}
+use Rattle.kinds.specs.declared.Tick.{Tick}
 use Rattle.arrival.specs.declared.Arrival.{Arrival}
 use Rattle.arrival.specs.declared.Arrival.TheVariants.{Missing, Unreadable, Unplaced}
 
@@ -64,7 +65,7 @@ pub arrivals-append : (start : ℤ) (xs ys : List ℤ) → readable xs ≡ true
     → arrivals start (xs ++ ys) ≡ arrivals start xs ++ arrivals (start +ℤ sum_of xs) ys
 arrivals-append start xs ys clear-xs =
     behind-append start [] xs ys
-    ∙ ap (λ (l : List Arrival). arrivals start xs ++ l)
+    ∙ ap (λ (l : List (Arrival Tick)). arrivals start xs ++ l)
     (ap (λ (l : List ℤ). arrivals_behind start l ys) (sym (append-nil xs)) ∙ on start xs [] ys clear-xs)
 
 -- ---- one word more
@@ -90,14 +91,14 @@ misses start w ws is =
     next_from start w ws (rw is refl) ∙ rw is (ap (λ (z : ℤ). Missing ∷ arrivals z ws) (+ℤ_idr start))
 
 -- behind an entry that can't be read
-abbrev pub placeless : Status → Arrival
+abbrev pub placeless : Status → Arrival Tick
 placeless (Received delta) = Unplaced
 placeless NotReceived = Missing
 placeless Truncated = Unreadable
 placeless Reserved = Unreadable
 placeless NoStatus = Unreadable
 
-abbrev pub out_of_place : List ℤ → List Arrival
+abbrev pub out_of_place : List ℤ → List (Arrival Tick)
 out_of_place = map (λ (w : ℤ). placeless (status_of w))
 
 lost_by : (start : ℤ) (before : List ℤ) (s : Status) → readable before ≡ false → arrival_behind start before s ≡ placeless s

@@ -4,3 +4,4 @@ pub mod Value
 pub mod Laws
 pub mod Walking
 pub mod Unique
+pub mod Division

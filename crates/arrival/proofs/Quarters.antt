@@ -13,11 +13,10 @@ use lib.Pow.{pow-add, pow_mono, shl_lt}
 use lib.Ieee.{binary64, of_bits, to_bits, nan_bits, is_nan}
 use lib.Ieee.Bits.{nan_bits_above, nan_bits_is, to_bits-of_bits}
 use Rattle.arrival.specs.Cursor.{exact_end, exact}
-use Rattle.arrival.specs.Overlay.{exponent_weight, sign_weight, infinity, leading, quarters, millisecond_bits, milliseconds, shown_at, shown_of, shown_bits}
+use Rattle.arrival.specs.Overlay.{exponent_weight, sign_weight, infinity, leading, quarters, millisecond_bits, milliseconds, Overlay, shown_at, shown_of, shown_bits}
+use Rattle.kinds.specs.declared.Tick.{Tick}
 use Rattle.arrival.specs.declared.Arrival.{Arrival}
-use Rattle.arrival.specs.declared.Arrival.TheVariants as ticks
-use Rattle.arrival.specs.declared.Overlay.{Overlay}
-use Rattle.arrival.specs.declared.Overlay.TheVariants.{Missing, Unreadable, Unplaced, Arrived}
+use Rattle.arrival.specs.declared.Arrival.TheVariants.{Missing, Unreadable, Unplaced, At}
 
 -- ---- the digits
 
@@ -45,16 +44,6 @@ digits m some small = let top = leading_top 64 m some (omega arith) in go top.0 
         let high : m * 2 ^ (52 - j) < 2 ^ 53 = subst (λ (x : ℕ). m * 2 ^ (52 - j) < 2 ^ x) more (shl_lt {a = m} (suc j) (52 - j) most) in
         record { leads = rw is short; counted = omega arith; low = rw is low; high = rw is high }
 
--- the bits of the quarter, as `quarters` makes them
-pub record Made (m : ℕ) : Type 0 where
-  pub is : (1020 + leading m) * exponent_weight + m * 2 ^ (52 - leading m) % 18446744073709551616 ≡ quarters m
-  pub small : quarters m < infinity
-
-pub made : (m : ℕ) → 0 < m → m < exact_end → Made m
-unfolding quarters
-made zero some small = absurd (omega arith)
-made (suc n) some small = let d = digits (suc n) some small in record { is = omega (arith, d.leads, d.low, d.high); small = omega (arith, d.leads, d.low, d.high) }
-
 pub quarters_by : (m : ℕ) → 0 < m → m < exact_end → quarters m ≡ suc (1020 + leading m) * exponent_weight + (m * 2 ^ (52 - leading m) - exponent_weight)
 unfolding quarters
 quarters_by zero some small = absurd (omega arith)
@@ -63,7 +52,7 @@ quarters_by (suc n) some small = omega arith
 pub quarters-small : (m : ℕ) → m < exact_end → quarters m < infinity
 unfolding quarters
 quarters-small zero small = omega arith
-quarters-small (suc n) small = (made (suc n) (omega arith) small).small
+quarters-small (suc n) small = let d = digits (suc n) (omega arith) small in omega (arith, d.leads, d.low, d.high)
 
 -- ---- the float
 
@@ -91,20 +80,20 @@ float (negsuc k) small =
     record { number = minus (quarters (suc k)) less; back = float_by (sign_weight + quarters (suc k)) (omega arith) (minus (quarters (suc k)) less) }
 
 -- what is shown has the bits that are promised, and is no NaN
-abbrev pub Shows : Arrival → Overlay → Type 0
+abbrev pub Shows : Arrival Tick → Overlay → Type 0
 Shows a Missing = shown_bits a ≡ 0
 Shows a Unreadable = shown_bits a ≡ 0
 Shows a Unplaced = shown_bits a ≡ 0
-Shows a (Arrived x) = T (not (is_nan x)) × (to_bits binary64 x ≡ shown_bits a)
+Shows a (At x) = T (not (is_nan x)) × (to_bits binary64 x ≡ shown_bits a)
 
-pub shows : (a : Arrival) → Shows a (shown_of a)
+pub shows : (a : Arrival Tick) → Shows a (shown_of a)
 unfolding shown_of shown_bits
-shows ticks.Missing = refl
-shows ticks.Unreadable = refl
-shows ticks.Unplaced = refl
-shows (ticks.At tick) = by_test (exact tick.0) near (λ far. rw far (ap (λ (b : Bool). cond b (millisecond_bits tick.0) 0) far))
+shows Missing = refl
+shows Unreadable = refl
+shows Unplaced = refl
+shows (At tick) = by_test (exact tick.0) near (λ far. rw far (ap (λ (b : Bool). cond b (millisecond_bits tick.0) 0) far))
   where
-    near : exact tick.0 ≡ true → Shows (ticks.At tick) (shown_at tick.0)
+    near : exact tick.0 ≡ true → Shows (At tick) (shown_at tick.0)
     near small =
         let f = float tick.0 (ltb-true (nat_abs tick.0) exact_end small) in
         let number : T (not (is_nan (milliseconds tick.0))) = subst (λ (b : Bool). T (not b)) (sym f.number ∙ nan_bits_is binary64 (millisecond_bits tick.0)) tt in

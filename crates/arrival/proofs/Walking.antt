@@ -18,22 +18,22 @@ use Rattle.twcc.specs.declared.Status.{Status}
 use Rattle.twcc.specs.declared.Status.TheVariants.{Received, NotReceived, Truncated, Reserved, NoStatus}
 use Rattle.arrival.specs.Arrivals.{ticks_of, clear, at, arrivals_behind, arrivals}
 use Rattle.arrival.specs.Overlay.{milliseconds, shown_of}
-use Rattle.arrival.specs.Cursor.{from, begun, exact_end, exact, unplaced, next_by, next_arrival, walked}
+use Rattle.arrival.specs.Cursor.{from, lost, begun, exact_end, exact, unplaced, next_by, next_arrival, walked}
+use Rattle.std.specs.Prelude.{Option, None, Some}
+use Rattle.kinds.specs.declared.Tick.{Tick}
 use Rattle.arrival.specs.declared.Arrival.{Arrival}
 use Rattle.arrival.specs.declared.Arrival.TheVariants.{Missing, Unreadable, Unplaced, At}
 use Rattle.arrival.specs.declared.Arrivals.{Arrivals}
-use Rattle.arrival.specs.declared.Arrivals.TheVariants.{From, Lost}
-use Rattle.arrival.specs.declared.Overlay.TheVariants.{Arrived}
 use Rattle.arrival.proofs.Sums.{near}
 use Rattle.arrival.proofs.Laws.{arrives, misses, placeless, out_of_place, unreads, delta_small}
 
 -- behind an entry that can't be read
-walked_lost : (ws : List ℤ) → walked Lost ws ≡ out_of_place ws
+walked_lost : (ws : List ℤ) → walked lost ws ≡ out_of_place ws
 unfolding walked next_arrival
 walked_lost [] = refl
 walked_lost (w ∷ ws) = go (status_of w) (walked_lost ws)
   where
-    go : (s : Status) → walked Lost ws ≡ out_of_place ws → (next_by Lost s).arrival ∷ walked (next_by Lost s).next ws ≡ placeless s ∷ out_of_place ws
+    go : (s : Status) → walked lost ws ≡ out_of_place ws → (next_by lost s).arrival ∷ walked (next_by lost s).next ws ≡ placeless s ∷ out_of_place ws
     go (Received delta) rest = ap (◌∷◌ Unplaced) rest
     go NotReceived rest = ap (◌∷◌ Missing) rest
     go Truncated rest = ap (◌∷◌ Unreadable) rest
@@ -46,7 +46,7 @@ unfolding walked next_arrival arrivals_behind
 walked_from t [] small = refl
 walked_from t (w ∷ ws) small = go (status_of w) refl (λ u less. walked_from u ws less)
   where
-    unread : (s : Status) → status_of w ≡ s → clear s ≡ false → Unreadable ∷ walked Lost ws ≡ arrivals t (w ∷ ws)
+    unread : (s : Status) → status_of w ≡ s → clear s ≡ false → Unreadable ∷ walked lost ws ≡ arrivals t (w ∷ ws)
     unread s is unclear = ap (◌∷◌ Unreadable) (walked_lost ws) ∙ sym (unreads t w ws (ap clear is ∙ unclear))
 
     go : (s : Status) → status_of w ≡ s → ((u : ℤ) → nat_abs u + half * length ws < exact_end → walked (from u) ws ≡ arrivals u ws)
@@ -79,23 +79,23 @@ pub block_walks : (block : List ℕ) → reference_time block ≤ latest → sta
 block_walks block fits count = let few = listed-few block in walked_from (ticks_of (reference_time block)) (listed block) (omega arith)
 
 -- what the cursor places, a display shows
-abbrev pub Displayed : Arrival → Type 0
-Displayed (At tick) = shown_of (At tick) ≡ Arrived (milliseconds tick.0)
+abbrev pub Displayed : Arrival Tick → Type 0
+Displayed (At tick) = shown_of (At tick) ≡ At (milliseconds tick.0)
 Displayed Missing = Unit
 Displayed Unreadable = Unit
 Displayed Unplaced = Unit
 
 pub placed_shown : (c : Arrivals) (w : ℤ) → Displayed (next_arrival c w).arrival
 unfolding next_arrival shown_of
-placed_shown c w = go (status_of w) c
+placed_shown c w = go (status_of w) c.from
   where
     placed : (t : ℤ) (b : Bool) → exact t ≡ b → Displayed (cond b (record { arrival = at t; next = from t }) unplaced).arrival
     placed t true holds = rw holds refl
     placed t false fails = tt
 
-    go : (s : Status) (a : Arrivals) → Displayed (next_by a s).arrival
-    go (Received d) (From tick) = placed (tick.0 +ℤ d) (exact (tick.0 +ℤ d)) refl
-    go (Received d) Lost = tt
+    go : (s : Status) (tick : Option Tick) → Displayed (next_by (record { from = tick }) s).arrival
+    go (Received d) (Some tick) = placed (tick.0 +ℤ d) (exact (tick.0 +ℤ d)) refl
+    go (Received d) None = tt
     go NotReceived a = tt
     go Truncated a = tt
     go Reserved a = tt

@@ -5,6 +5,7 @@ use Rattle.std.specs.Prelude.{ℕ, ◌*◌, List, [], ◌∷◌, ◌++◌, Bool,
 use Rattle.twcc.specs.Status.{status_of}
 use Rattle.twcc.specs.declared.Status.{Status}
 use Rattle.twcc.specs.declared.Status.TheVariants.{Received, NotReceived, Truncated, Reserved, NoStatus}
+use Rattle.kinds.specs.declared.Tick.{Tick}
 use Rattle.arrival.specs.declared.Arrival.{Arrival}
 use Rattle.arrival.specs.declared.Arrival.TheVariants.{Missing, Unreadable, Unplaced, At}
 
@@ -38,11 +39,11 @@ unfoldable pub readable : List ℤ → Bool
 readable [] = true
 readable (w ∷ ws) = clear (status_of w) && readable ws
 
-abbrev pub at : ℤ → Arrival
+abbrev pub at : ℤ → Arrival Tick
 at tick = At (record { 0 = tick })
 
 -- the arrival of an entry of this status behind these words, where the block's reference time is the tick `start`
-abbrev pub arrival_behind : ℤ → List ℤ → Status → Arrival
+abbrev pub arrival_behind : ℤ → List ℤ → Status → Arrival Tick
 arrival_behind start before NotReceived = Missing
 arrival_behind start before Truncated = Unreadable
 arrival_behind start before Reserved = Unreadable
@@ -50,10 +51,10 @@ arrival_behind start before NoStatus = Unreadable
 arrival_behind start before (Received delta) = cond (readable before) (at (start +ℤ (sum_of before +ℤ delta))) Unplaced
 
 -- the arrivals of words behind others
-unfoldable pub arrivals_behind : ℤ → List ℤ → List ℤ → List Arrival
+unfoldable pub arrivals_behind : ℤ → List ℤ → List ℤ → List (Arrival Tick)
 arrivals_behind start before [] = []
 arrivals_behind start before (w ∷ ws) = arrival_behind start before (status_of w) ∷ arrivals_behind start (before ++ (w ∷ [])) ws
 
 -- the arrivals of a block's words
-abbrev pub arrivals : ℤ → List ℤ → List Arrival
+abbrev pub arrivals : ℤ → List ℤ → List (Arrival Tick)
 arrivals start words = arrivals_behind start [] words

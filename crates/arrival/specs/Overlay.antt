@@ -5,10 +5,9 @@ use Rattle.std.specs.Int.Count.{count_leading_zeros}
 use Rattle.std.specs.Float.Ieee.{of_bits}
 use Rattle.std.specs.Float.{binary64}
 use Rattle.arrival.specs.Cursor.{exact}
+use Rattle.kinds.specs.declared.Tick.{Tick}
 use Rattle.arrival.specs.declared.Arrival.{Arrival}
-use Rattle.arrival.specs.declared.Arrival.TheVariants as ticks
-use Rattle.arrival.specs.declared.Overlay.{Overlay}
-use Rattle.arrival.specs.declared.Overlay.TheVariants.{Missing, Unreadable, Unplaced, Arrived}
+use Rattle.arrival.specs.declared.Arrival.TheVariants.{Missing, Unreadable, Unplaced, At}
 
 -- the weight of the exponent's lowest bit, 2 ^ 52, and that of the sign, 2 ^ 63
 abbrev pub exponent_weight : ℕ
@@ -38,18 +37,22 @@ millisecond_bits (negsuc k) = sign_weight + quarters (suc k)
 abbrev pub milliseconds : ℤ → Float
 milliseconds tick = of_bits binary64 (millisecond_bits tick)
 
-abbrev pub shown_at : ℤ → Overlay
-shown_at tick = cond (exact tick) (Arrived (milliseconds tick)) Unplaced
+-- an arrival for a display: milliseconds for ticks
+abbrev pub Overlay : Type 0
+Overlay = Arrival Float
 
-unfoldable pub shown_of : Arrival → Overlay
-shown_of ticks.Missing = Missing
-shown_of ticks.Unreadable = Unreadable
-shown_of ticks.Unplaced = Unplaced
-shown_of (ticks.At tick) = shown_at tick.0
+abbrev pub shown_at : ℤ → Overlay
+shown_at tick = cond (exact tick) (At (milliseconds tick)) Unplaced
+
+unfoldable pub shown_of : Arrival Tick → Overlay
+shown_of Missing = Missing
+shown_of Unreadable = Unreadable
+shown_of Unplaced = Unplaced
+shown_of (At tick) = shown_at tick.0
 
 -- the bits of the milliseconds shown, 0 where none are
-unfoldable pub shown_bits : Arrival → ℕ
-shown_bits ticks.Missing = 0
-shown_bits ticks.Unreadable = 0
-shown_bits ticks.Unplaced = 0
-shown_bits (ticks.At tick) = cond (exact tick.0) (millisecond_bits tick.0) 0
+unfoldable pub shown_bits : Arrival Tick → ℕ
+shown_bits Missing = 0
+shown_bits Unreadable = 0
+shown_bits Unplaced = 0
+shown_bits (At tick) = cond (exact tick.0) (millisecond_bits tick.0) 0

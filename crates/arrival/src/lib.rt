@@ -5,7 +5,8 @@ mod millis;
 
 ghost use Rattle.std.specs.Prelude.{◌≡◌, ◌+ℤ◌};
 ghost use Rattle.octets.specs.Signed.{bits64};
-ghost use Rattle.arrival.specs.Cursor.{said_begun, begun, unplaced, entry_at, moved, next_arrival};
+ghost use Rattle.refusal.specs.Said.{said};
+ghost use Rattle.arrival.specs.Cursor.{begun, unplaced, entry_at, moved, next_arrival};
 ghost use Rattle.arrival.specs.Overlay.{shown_at, shown_of};
 
 use kinds::{RefTime, Tick};
@@ -14,58 +15,48 @@ use twcc::{LATEST_TIME, Status};
 
 // When an entry's packet arrived: it did not; the entry can't be read; it did, but stands behind an entry that can't be read, so
 // that nobody can say when; or at a tick.
-#[derive(Clone, Copy)]
-pub enum Arrival {
+#[derive(Clone, Copy, Debug, PartialEq, Eq)]
+pub enum Arrival<T> {
     Missing,
     Unreadable,
     Unplaced,
-    At(Tick),
+    At(T),
 }
 
 // The same for a display, with milliseconds for ticks.
-#[derive(Clone, Copy)]
-pub enum Overlay {
-    Missing,
-    Unreadable,
-    Unplaced,
-    Arrived(f64),
-}
+pub type Overlay = Arrival<f64>;
 
-// The arrivals to come: the tick that the next delta counts from. It is lost behind an entry that can't be read.
-#[derive(Clone, Copy)]
-pub enum Arrivals {
-    From(Tick),
-    Lost,
-}
-
-// A block's arrivals, or the refusal of its reference time.
-#[derive(Clone, Copy)]
-pub enum Begun {
-    Arrivals(Arrivals),
-    No(Refusal),
+// The arrivals to come: the tick that the next delta counts from; none behind an entry that can't be read.
+#[derive(Clone, Copy, Debug, PartialEq, Eq)]
+pub struct Arrivals {
+    pub from: Option<Tick>,
 }
 
 // An entry's arrival, and the arrivals after it.
-#[derive(Clone, Copy)]
+#[derive(Clone, Copy, Debug, PartialEq, Eq)]
 pub struct Entry {
-    pub arrival: Arrival,
+    pub arrival: Arrival<Tick>,
     pub next: Arrivals,
 }
 
 impl Arrivals {
     // The arrivals of a block: the first delta counts from its reference time.
-    pub fn of(time: RefTime) -> Begun
-        ensures { said_begun result ≡ begun time.0 }
+    #[tactic(auto, unfolding(crate::specs::Cursor::begun), using(crate::proofs::Sums::times))]
+    pub fn of(time: RefTime) -> Result<Arrivals, Refusal>
+        ensures { said result ≡ begun time.0 }
     {
         let t = time.0;
         if LATEST_TIME < t {
-            return Begun::No(Refusal::ReferenceTimeTooLarge(t));
+            return Err(Refusal::ReferenceTimeTooLarge(t));
         }
-        let start = (t * 256) as i64;
-        Begun::Arrivals(Arrivals::From(Tick(start)))
+        let start = i64::from(t * 256);
+        Ok(Arrivals {
+            from: Some(Tick(start)),
+        })
     }
 
     // The arrival of the entry with this status word; any word is welcome.
+    #[tactic(auto, unfolding(crate::specs::Cursor::next_arrival), using(std::proofs::lemmas::Int::ints))]
     pub fn next(self, word: i32) -> Entry
         ensures { result ≡ next_arrival self word }
     {
@@ -77,7 +68,7 @@ impl Arrivals {
             },
             _ => Entry {
                 arrival: Arrival::Unreadable,
-                next: Arrivals::Lost,
+                next: Arrivals { from: None },
             },
         }
     }
@@ -86,31 +77,26 @@ impl Arrivals {
     fn moved(self, delta: i16) -> Entry
         ensures { result ≡ moved self delta }
     {
-        match self {
-            Arrivals::From(tick) => later(tick, delta),
-            Arrivals::Lost => unplaced(),
+        match self.from {
+            Some(tick) => later(tick, delta),
+            None => unplaced(),
         }
     }
 }
 
-// 2^54: from as far as this no delta leads back to a tick whose milliseconds are exact.
-const FAR: u64 = 18014398509481984;
-
-// The arrival so long after a tick, where its milliseconds are exact.
+// The arrival so long after a tick, where its milliseconds are exact: far from it where the sum saturates.
 fn later(tick: Tick, delta: i16) -> Entry
     ensures { result ≡ entry_at (tick.0 +ℤ delta) }
 {
-    let from = tick.0;
-    if FAR <= millis::size(from) {
-        return unplaced();
-    }
-    let at = from + (delta as i64);
-    if millis::EXACT_END <= millis::size(at) {
+    let at = tick.0.saturating_add(i64::from(delta));
+    if millis::EXACT_END <= at.unsigned_abs() {
         return unplaced();
     }
     Entry {
         arrival: Arrival::At(Tick(at)),
-        next: Arrivals::From(Tick(at)),
+        next: Arrivals {
+            from: Some(Tick(at)),
+        },
     }
 }
 
@@ -119,19 +105,20 @@ fn unplaced() -> Entry
 {
     Entry {
         arrival: Arrival::Unplaced,
-        next: Arrivals::Lost,
+        next: Arrivals { from: None },
     }
 }
 
-impl Arrival {
+impl Arrival<Tick> {
     // The arrival for a display. A tick whose milliseconds no float holds exactly is unplaced.
+    #[tactic(auto, unfolding(crate::specs::Overlay::shown_of), using(std::proofs::lemmas::Int::ints))]
     pub fn shown(self) -> Overlay
         ensures { result ≡ shown_of self }
     {
         match self {
-            Arrival::Missing => Overlay::Missing,
-            Arrival::Unreadable => Overlay::Unreadable,
-            Arrival::Unplaced => Overlay::Unplaced,
+            Arrival::Missing => Arrival::Missing,
+            Arrival::Unreadable => Arrival::Unreadable,
+            Arrival::Unplaced => Arrival::Unplaced,
             Arrival::At(tick) => at(tick.0),
         }
     }
@@ -140,10 +127,10 @@ impl Arrival {
 fn at(tick: i64) -> Overlay
     ensures { result ≡ shown_at tick }
 {
-    if millis::EXACT_END <= millis::size(tick) {
-        return Overlay::Unplaced;
+    if millis::EXACT_END <= tick.unsigned_abs() {
+        return Arrival::Unplaced;
     }
-    Overlay::Arrived(millis::milliseconds(tick))
+    Arrival::At(millis::milliseconds(tick))
 }
 
 // A tick in two's complement, for callers that take plain unsigned numbers.

@@ -1,53 +1,35 @@
 // The help page.
-use crate::stream;
+use crate::trouble::Trouble;
+
+const PAGE: &str = "\
+bogslipper: reports on RTCP feedback
+
+  bogslipper compound FILE    whether it is a compound, and each packet of it
+  bogslipper nack FILE        the numbers that a generic NACK's entries name
+  bogslipper twcc FILE        a TWCC block's header, and its entries with their arrivals
+  bogslipper help             this page
+
+FILE has at most 262144 bytes; - is standard input.
+
+  --hex       FILE is hex text: two digits a byte, blanks between, comments from # on
+  --skip N    leave out the first N bytes
+  --take N    of the rest, take at most N
+
+nack and twcc want the block alone. Where compound says that a packet holds one, it
+starts 12 bytes behind the packet's offset and is 8 bytes less than its body.
+
+A tick is 250 microseconds, and a delta counts from the arrival before it. unplaced is a
+packet received behind an entry that can't be read: nobody knows when.
+
+Exit status: 0 answered, 1 refused, 2 trouble with the words or the file.
+";
 
 pub fn write(stream: &impl Print) {
-    stream::write_all(stream, b"bogslipper: reports on RTCP feedback\n\n");
-    stream::write_all(
-        stream,
-        b"  bogslipper compound FILE    whether it is a compound, and each packet of it\n",
-    );
-    stream::write_all(
-        stream,
-        b"  bogslipper nack FILE        the numbers that a generic NACK's entries name\n",
-    );
-    stream::write_all(
-        stream,
-        b"  bogslipper twcc FILE        a TWCC block's header, and its entries with their arrivals\n",
-    );
-    stream::write_all(stream, b"  bogslipper help             this page\n\n");
-    stream::write_all(
-        stream,
-        b"FILE has at most 262144 bytes; - is standard input.\n\n",
-    );
-    stream::write_all(
-        stream,
-        b"  --hex       FILE is hex text: two digits a byte, blanks between, comments from # on\n",
-    );
-    stream::write_all(stream, b"  --skip N    leave out the first N bytes\n");
-    stream::write_all(stream, b"  --take N    of the rest, take at most N\n\n");
-    stream::write_all(
-        stream,
-        b"nack and twcc want the block alone. Where compound says that a packet holds one, it\n",
-    );
-    stream::write_all(
-        stream,
-        b"starts 12 bytes behind the packet's offset and is 8 bytes less than its body.\n\n",
-    );
-    stream::write_all(
-        stream,
-        b"A tick is 250 microseconds, and a delta counts from the arrival before it. unplaced is a\n",
-    );
-    stream::write_all(
-        stream,
-        b"packet received behind an entry that can't be read: nobody knows when.\n\n",
-    );
-    stream::write_all(
-        stream,
-        b"Exit status: 0 answered, 1 refused, 2 trouble with the words or the file.\n",
-    );
+    let _ = stream.write_all(PAGE.as_bytes());
 }
 
-pub fn hint(err: &impl Print) {
-    stream::write_all(err, b"'bogslipper help' lists commands and options.\n");
+// The last line of what is said of a wrong word.
+pub fn hint(err: &impl Print) -> Trouble {
+    let _ = println!(err; "'bogslipper help' lists commands and options.");
+    Trouble
 }

@@ -1,7 +1,6 @@
 // What a report is about: the bytes of a file or of standard input.
-ghost use Rattle.std.specs.Prelude.{◌≡◌, length};
-
-use crate::stream;
+use crate::trouble::Trouble;
+use crate::{hex, trouble};
 use std::fmt::InlineText;
 use std::io::{Error, ErrorKind, Read};
 use std::rt::Files;
@@ -13,43 +12,55 @@ const MOST: usize = 262144;
 // One place more, so that a larger file is noticed.
 pub const ROOM: usize = MOST + 1;
 
-// Room for a file.
-pub fn room() -> [u8; ROOM]
-    ensures { 262145 ≡ length result }
-{
-    [0; ROOM]
-}
-
-// How many bytes there are, or none after a message about why not.
-#[derive(Clone, Copy)]
-pub enum Input {
-    Bytes(usize),
-    Trouble,
+// Which part of FILE a report is about: whether it is hex text, how many of its bytes are left out, and how many of the rest
+// are taken at most.
+#[derive(Clone, Copy, Debug, PartialEq, Eq)]
+pub struct Part {
+    pub hex: bool,
+    pub skip: usize,
+    pub take: usize,
 }
 
 // Where the bytes of a report stand: whether FILE is hex text, and how many of its bytes come before them.
-#[derive(Clone, Copy)]
+#[derive(Clone, Copy, Debug, PartialEq, Eq)]
 pub struct Place {
     pub hex: bool,
     pub start: usize,
 }
 
-// Reads a file, or standard input where its name is "-", into the front of `bytes`.
-pub fn read(
+// The bytes of a file, or of standard input where its name is "-", in the front of `room`.
+pub fn read<'a>(
     rt: &(impl Files + io::Input),
     err: &impl Print,
     path: &[u8],
-    bytes: &mut [u8],
-) -> Input {
-    if is_dash(path) {
-        return from(&mut rt.reader(), err, path, bytes);
+    hex: bool,
+    room: &'a mut [u8],
+) -> Result<&'a [u8], Trouble> {
+    let bytes = match fill(rt, path, room) {
+        Ok(bytes) => bytes,
+        Err(e) => return Err(failed(err, path, e)),
+    };
+    if MOST < bytes.len() {
+        return Err(trouble::with_file(err, path, "larger than 262144 bytes"));
     }
-    match open(rt, path) {
-        Ok(mut file) => from(&mut file, err, path, bytes),
-        Err(e) => failed(err, path, e),
+    if hex {
+        return hex::decode(bytes).map_err(|flaw| trouble::with_file(err, path, flaw));
+    }
+    Ok(bytes)
+}
+
+fn fill<'a>(
+    rt: &(impl Files + io::Input),
+    path: &[u8],
+    room: &'a mut [u8],
+) -> io::Result<&'a mut [u8]> {
+    match path {
+        b"-" => fill_from(&mut rt.reader(), room),
+        _ => fill_from(&mut open(rt, path)?, room),
     }
 }
 
+// As the replay opens its recording, says an error and reads to the end: no crate below both programs holds code of programs.
 fn open<R: Files>(rt: &R, path: &[u8]) -> io::Result<R::File> {
     match str::from_utf8(path) {
         Ok(path) => fs::open(rt, path),
@@ -57,81 +68,25 @@ fn open<R: Files>(rt: &R, path: &[u8]) -> io::Result<R::File> {
     }
 }
 
-fn is_dash(path: &[u8]) -> bool {
-    if path.len() == 1 {
-        return path[0] == b'-';
-    }
-    false
-}
-
-fn failed(err: &impl Print, path: &[u8], e: Error) -> Input {
-    let text = InlineText::<128>::of(e);
-    trouble(err, path);
-    stream::write_all(err, without_number(text.as_str()).as_bytes());
-    stream::write_all(err, b"\n");
-    Input::Trouble
-}
-
-// The system's words for an error, without its number behind them.
-fn without_number(text: &str) -> &str {
-    match text.split_once(" (os error ") {
-        Some((words, _)) => words,
-        None => text,
-    }
-}
-
-// The start of a message about a file.
-pub fn trouble(err: &impl Print, path: &[u8]) {
-    stream::write_all(err, b"bogslipper: ");
-    stream::write_all(err, path);
-    stream::write_all(err, b": ");
-}
-
-#[derive(Clone, Copy)]
-enum Got {
-    More(usize),
-    End,
-    Failed(Error),
-}
-
-// Reads once, behind the bytes so far.
-fn piece(file: &mut impl Read, bytes: &mut [u8], have: usize) -> Got {
-    if bytes.len() <= have {
-        return Got::End;
-    }
-    match file.read(&mut bytes[have..]) {
-        Ok(0) => Got::End,
-        Ok(n) => Got::More(have + n),
-        Err(e) => Got::Failed(e),
-    }
-}
-
-// All that can be read. Each turn but the last reads a byte or more, so the turns suffice.
-fn from(file: &mut impl Read, err: &impl Print, path: &[u8], bytes: &mut [u8]) -> Input {
-    let mut have = 0;
-    let mut turns = bytes.len();
-    while 0 < turns {
-        turns -= 1;
-        match piece(file, bytes, have) {
-            Got::More(n) => {
-                have = n;
-            }
-            Got::End => {
-                return within(err, path, have);
-            }
-            Got::Failed(e) => {
-                return failed(err, path, e);
-            }
+// Reads until the room is full or the file ends, and answers what it read. A read gives as many bytes as it likes, so that nothing counts the
+// turns.
+fn fill_from<'a>(file: &mut impl Read, room: &'a mut [u8]) -> io::Result<&'a mut [u8]> {
+    let mut size = 0;
+    while size < room.len() {
+        match file.read(&mut room[size..])? {
+            0 => break,
+            n => size += n,
         }
     }
-    within(err, path, have)
+    Ok(&mut room[..size])
 }
 
-fn within(err: &impl Print, path: &[u8], have: usize) -> Input {
-    if MOST < have {
-        trouble(err, path);
-        stream::write_all(err, b"larger than 262144 bytes\n");
-        return Input::Trouble;
-    }
-    Input::Bytes(have)
+// Says the system's words for an error, without its number behind them.
+fn failed(err: &impl Print, path: &[u8], e: Error) -> Trouble {
+    let text = InlineText::<128>::of(e);
+    let text = text.as_str();
+    let words = text
+        .split_once(" (os error ")
+        .map_or(text, |(words, _)| words);
+    trouble::with_file(err, path, words)
 }

@@ -7,25 +7,28 @@ mod entries;
 mod help;
 mod hex;
 mod input;
-mod line;
 mod numbers;
 mod packets;
-mod stream;
+mod trouble;
 mod words;
 
-use ask::{Asked, Count};
-use input::{Input, Place};
+use ask::Asked;
+use input::{Part, Place};
+use refusal::Refusal;
 use std::io::Write;
 use std::os::unix::fs::MetadataExt;
 use std::rt::{Env, Files};
 use std::{fs, io};
+use trouble::Trouble;
+use words::Refused;
 
-// Answered, refused, and trouble with the words or the file.
-const ANSWERED: u8 = b'0';
-
-const REFUSED: u8 = b'1';
-
-const TROUBLE: u8 = b'2';
+// What becomes of a call, in the digits that the exit status is handed on in.
+#[derive(Clone, Copy, Debug, PartialEq, Eq)]
+enum Status {
+    Answered = b'0' as isize,
+    Refused = b'1' as isize,
+    Trouble = b'2' as isize,
+}
 
 // The descriptor that takes the exit status, where --status asks for it: the program's own is 0.
 const STATUS_FILE: &str = "/dev/fd/3";
@@ -33,83 +36,79 @@ const STATUS_FILE: &str = "/dev/fd/3";
 fn main(rt: HostRuntime) {
     let err = rt.stderr();
     let asked = ask::ask(&rt, &err);
-    let status = answer(&rt, &err, asked);
+    let status = answer(&rt, &err, asked).unwrap_or(Status::Trouble);
     if asked.status {
         let _ = hand_on(&rt, status);
     }
 }
 
 // Writes the status where the descriptor is open for writing, which the mode of its link says.
-fn hand_on(rt: &impl Files, status: u8) -> io::Result<()> {
+fn hand_on(rt: &impl Files, status: Status) -> io::Result<()> {
     if fs::symlink_metadata(rt, STATUS_FILE)?.mode() & 0o200 == 0 {
         return Ok(());
     }
     let mut file = fs::OpenOptions::new().append(true).open(rt, STATUS_FILE)?;
-    file.write_all(&[status])
+    file.write_all(&[status as u8])
 }
 
-fn answer(rt: &(impl Env + Files + io::Input + Print), err: &impl Print, asked: Asked) -> u8 {
+fn answer(
+    rt: &(impl Env + Files + io::Input + Print),
+    err: &impl Print,
+    asked: Asked,
+) -> Result<Status, Trouble> {
     if asked.help {
         help::write(rt);
-        return ANSWERED;
+        return Ok(Status::Answered);
     }
     if asked.wrong {
-        help::hint(err);
-        return TROUBLE;
+        return Err(help::hint(err));
     }
-    if asked.command == 0 {
+    let Some(place) = asked.command else {
         help::write(err);
-        return TROUBLE;
-    }
-    match asked_for(rt, err, asked.command) {
+        return Err(Trouble);
+    };
+    match asked_for(rt, err, place)? {
         Command::About(report) => about(rt, err, asked, report),
         Command::Help => {
             help::write(rt);
-            ANSWERED
-        }
-        Command::None => {
-            help::hint(err);
-            TROUBLE
+            Ok(Status::Answered)
         }
     }
 }
 
-#[derive(Clone, Copy)]
+#[derive(Clone, Copy, Debug, PartialEq, Eq)]
 enum Report {
     Compound,
     Nack,
     Twcc,
 }
 
-#[derive(Clone, Copy)]
+#[derive(Clone, Copy, Debug, PartialEq, Eq)]
 enum Command {
     About(Report),
     Help,
-    None,
 }
 
-// The command that an argument names. Says so where there is none.
-fn asked_for(rt: &impl Env, err: &impl Print, place: usize) -> Command {
-    let mut word = [0u8; ask::LONGEST];
-    let n = rt.arg(place, &mut word).unwrap_or(0);
-    named(err, &word[..n])
+impl Command {
+    fn named(word: &[u8]) -> Option<Command> {
+        match word {
+            b"compound" => Some(Command::About(Report::Compound)),
+            b"nack" => Some(Command::About(Report::Nack)),
+            b"twcc" => Some(Command::About(Report::Twcc)),
+            b"help" => Some(Command::Help),
+            _ => None,
+        }
+    }
 }
 
-fn named(err: &impl Print, word: &[u8]) -> Command {
-    if ask::same(word, b"compound") {
-        return Command::About(Report::Compound);
-    }
-    if ask::same(word, b"nack") {
-        return Command::About(Report::Nack);
-    }
-    if ask::same(word, b"twcc") {
-        return Command::About(Report::Twcc);
-    }
-    if ask::same(word, b"help") {
-        return Command::Help;
-    }
-    ask::complain(err, b"no such command", word);
-    Command::None
+// The command that an argument names.
+fn asked_for(rt: &impl Env, err: &impl Print, place: usize) -> Result<Command, Trouble> {
+    let mut room = ask::ROOM;
+    let word = ask::argument(rt, place, &mut room);
+    Command::named(word).ok_or_else(|| {
+        trouble::with_word(err, "no such command", word);
+        help::hint(err)
+    })
 }
 
 // A report on the file that is asked for.
@@ -118,85 +117,42 @@ fn about(
     err: &impl Print,
     asked: Asked,
     report: Report,
-) -> u8 {
-    if asked.file == 0 {
-        stream::write_all(err, b"bogslipper: no FILE\n");
-        help::hint(err);
-        return TROUBLE;
-    }
-    let Count::Is(skip) = ask::number(rt, err, asked.skip, 0) else {
-        return TROUBLE;
+) -> Result<Status, Trouble> {
+    let Some(file) = asked.file else {
+        let _ = println!(err; "bogslipper: no FILE");
+        return Err(help::hint(err));
     };
-    let Count::Is(take) = ask::number(rt, err, asked.take, input::ROOM) else {
-        return TROUBLE;
-    };
-    named_file(rt, err, report, asked, skip, take)
+    let part = asked.part(rt, err)?;
+    let mut path = ask::ROOM;
+    let path = ask::argument(rt, file, &mut path);
+    let mut room = [0u8; input::ROOM];
+    let bytes = input::read(rt, err, path, part.hex, &mut room)?;
+    Ok(print(rt, report, bytes, part))
 }
 
-fn named_file(
-    rt: &(impl Env + Files + io::Input + Print),
-    err: &impl Print,
-    report: Report,
-    asked: Asked,
-    skip: usize,
-    take: usize,
-) -> u8 {
-    let mut path = [0u8; ask::LONGEST];
-    let n = rt.arg(asked.file, &mut path).unwrap_or(0);
-    let mut bytes = input::room();
-    within(
-        rt,
-        err,
-        report,
-        &path[..n],
-        asked.hex,
-        skip,
-        take,
-        &mut bytes,
-    )
-}
-
-// A report on the part of a file that --skip and --take leave. `bytes` is room for the file.
-fn within(
-    rt: &(impl Files + io::Input + Print),
-    err: &impl Print,
-    report: Report,
-    path: &[u8],
-    hex: bool,
-    skip: usize,
-    take: usize,
-    bytes: &mut [u8],
-) -> u8 {
-    let Input::Bytes(size) = read(rt, err, path, hex, bytes) else {
-        return TROUBLE;
+// A report on a part of the bytes.
+fn print(out: &impl Print, report: Report, bytes: &[u8], part: Part) -> Status {
+    let start = part.skip.min(bytes.len());
+    let rest = &bytes[start..];
+    let bytes = &rest[..part.take.min(rest.len())];
+    let place = Place {
+        hex: part.hex,
+        start,
     };
-    let whole = octets::lesser(size, bytes.len());
-    let start = octets::lesser(skip, whole);
-    let end = start + octets::lesser(take, whole - start);
-    print(rt, report, &bytes[start..end], Place { hex, start })
-}
-
-fn read(
-    rt: &(impl Files + io::Input),
-    err: &impl Print,
-    path: &[u8],
-    hex: bool,
-    bytes: &mut [u8],
-) -> Input {
-    let Input::Bytes(size) = input::read(rt, err, path, bytes) else {
-        return Input::Trouble;
-    };
-    if hex {
-        return hex::decode(err, bytes, size, path);
-    }
-    Input::Bytes(size)
-}
-
-fn print(out: &impl Print, report: Report, bytes: &[u8], place: Place) -> u8 {
-    let fine = match report {
+    match report {
         Report::Compound => packets::report(out, bytes, place),
-        Report::Nack => numbers::report(out, bytes),
-        Report::Twcc => entries::report(out, bytes),
-    };
-    if fine { ANSWERED } else { REFUSED }
+        Report::Nack => ended(out, numbers::report(out, bytes)),
+        Report::Twcc => ended(out, entries::report(out, bytes)),
+    }
+}
+
+// The status of a report that ends at what it was refused for.
+fn ended(out: &impl Print, answer: Result<(), Refusal>) -> Status {
+    match answer {
+        Ok(()) => Status::Answered,
+        Err(r) => {
+            let _ = println!(out; "{}", Refused(r));
+            Status::Refused
+        }
+    }
 }

@@ -1,7 +1,7 @@
 pub mod Record
 pub mod Laws
 pub mod Packets
+pub mod Unique
 pub mod Sound
 pub mod Own
 pub mod Rust
-pub mod Unique

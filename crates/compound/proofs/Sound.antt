@@ -1,70 +1,39 @@
 -- The first pass accepts exactly the packets that make a compound, laid end to end.
-use Prim.Native.Nat.{ℕ, zero, suc, ◌+◌, ◌-◌, ◌/◌, ◌%◌, ◌≤◌, ◌<◌}
-use mathlib.Core.List.{List, [], ◌∷◌, ◌++◌, append_assoc}
-use mathlib.Core.Path.{◌≡◌, refl, sym, ap, ◌∙◌}
+use Prim.Native.Nat.{ℕ, zero, suc, ◌+◌, ◌-◌, ◌≤◌, ◌<◌}
+use mathlib.Core.List.{List, [], ◌∷◌, ◌++◌}
+use mathlib.Core.Path.{◌≡◌, sym, ◌∙◌}
 use mathlib.Core.Bool.{true}
 use native.Mathlib.Omega.{arith}
 use borrow.Author.Tests.{ltb-true, ltb-false}
-use lib.Dec.{ltb}
-use lib.ListN.{length, get_or, take, drop, length-append, length-drop, take-append-drop}
-use lib.Seq.{length-take-le, drop-append_seam}
-use Rattle.octets.proofs.Logic.{by_test, never}
+use lib.Dec.{eqb, ltb}
+use lib.ListN.{length, drop}
+use lib.Seq.{drop-append_seam}
+use Rattle.std.proofs.lemmas.Grind.{common_steps}
+use Rattle.octets.proofs.Logic.{by_test}
 use Rattle.refusal.specs.Outcome.{gave}
-use Rattle.utils.specs.Header.{version_of, padding_bit_of, length_of}
+use Rattle.utils.specs.Header.{padding_bit_of}
 use Rattle.utils.specs.Check.{padding_fits}
-use Rattle.utils.proofs.Laws.{own_version, own_bit, own_size, own_fits}
+use Rattle.utils.proofs.Laws.{own_fits, take_fits}
 use Rattle.compound.specs.Pass.{end_of, first_turn, turns_from, pass_by, first_pass}
 use Rattle.compound.specs.Record.{packet_at}
 use Rattle.compound.specs.Packets.{bytes_in, packets_from, packets_in, end_to_end}
 use Rattle.compound.specs.Sound.{Whole, Sound, plain, padded, before}
-use Rattle.compound.proofs.Laws.{Turned, PaddingAt, clear, fits, version-at, padding_at, turn-plain, turn-fits, turns_step, turns_end, pass-start}
+use Rattle.compound.proofs.Laws.{Turned, turns_end, pass-start}
 use Rattle.compound.proofs.Packets.{Accepted, ended, passed, accepted, packets_more, packets_none, from_start}
 
--- a whole packet at the front of some bytes, told from those bytes
-module _ (s : List ℕ) (size : length_of s ≤ length s) where
-  abbrev own : List ℕ
-  own = take (length_of s) s
+-- the packet at a turn that goes on says alone what it says there
+module _ (bytes : List ℕ) (at : ℕ) (t : Turned bytes at (end_of bytes at)) where
+  abbrev here : List ℕ
+  here = bytes_in bytes (packet_at bytes at)
 
-  pub own_length_lem : length own ≡ length_of s
-  own_length_lem = length-take-le (length_of s) s size
+  whole : Whole here
+  whole = let within = t.within in let two = t.two in grind (arith, common_steps)
 
-  pub behind : own ++ drop (length_of s) s ≡ s
-  behind = take-append-drop (length_of s) s
+  bit_here : padding_bit_of here ≡ padding_bit_of (drop at bytes)
+  bit_here = let within = t.within in grind arith
 
-  pub header : 4 ≤ length own
-  header = omega (arith, own_length_lem)
-
-  version-front : version_of own ≡ version_of s
-  version-front = sym (own_version own (drop (length_of s) s) header) ∙ ap version_of behind
-
-  pub bit-front : padding_bit_of own ≡ padding_bit_of s
-  bit-front = sym (own_bit own (drop (length_of s) s) header) ∙ ap padding_bit_of behind
-
-  pub size-front : length_of own ≡ length_of s
-  size-front = sym (own_size own (drop (length_of s) s) header) ∙ ap length_of behind
-
-  fits-front : padding_fits own ≡ padding_fits s
-  fits-front = sym (own_fits own (drop (length_of s) s) header (own_length_lem ∙ sym size-front)) ∙ ap padding_fits behind
-
-  whole_front : version_of s ≡ 2 → Whole own
-  whole_front two = record { size = own_length_lem ∙ sym size-front; two = version-front ∙ two }
-
--- the packet at a turn that goes on, and the packets behind it
-module _ (most : ℕ) (bytes : List ℕ) (at : ℕ) (t : Turned bytes at (end_of bytes at)) where
-  inside : length_of (drop at bytes) ≤ length (drop at bytes)
-  inside = let within = t.within in omega (arith, length-drop at bytes)
-
-  whole : Whole (bytes_in bytes (packet_at bytes at))
-  whole = whole_front (drop at bytes) inside t.two
-
-  ending : packets_from most bytes (end_of bytes at) ≡ [] → PaddingAt bytes at (end_of bytes at) → Sound (bytes_in bytes (packet_at bytes at) ∷ packets_from most bytes (end_of bytes at))
-  ending none (clear bit) = rw none (plain whole (bit-front (drop at bytes) inside ∙ bit))
-  ending none (fits bit end count) = rw none (padded whole (bit-front (drop at bytes) inside ∙ bit) (fits-front (drop at bytes) inside ∙ count))
-
-  following : end_of bytes at < length bytes → Sound (packets_from most bytes (end_of bytes at)) → PaddingAt bytes at (end_of bytes at)
-      → Sound (bytes_in bytes (packet_at bytes at) ∷ packets_from most bytes (end_of bytes at))
-  following further rest (clear bit) = before whole (bit-front (drop at bytes) inside ∙ bit) rest
-  following further rest (fits bit end count) = absurd (omega arith)
+  fits_here : padding_fits here ≡ padding_fits (drop at bytes)
+  fits_here = let within = t.within in grind (arith, common_steps, take_fits)
 
 sound_from : (most : ℕ) (bytes : List ℕ) (at : ℕ) → at < length bytes → length bytes - at ≤ most → turns_from first_turn most bytes at ≡ gave tt → Sound (packets_from most bytes at)
 sound_from zero bytes at more enough passes = absurd (omega arith)
@@ -75,16 +44,22 @@ sound_from (suc most) bytes at more enough passes = go (accepted most bytes at p
         → Sound (packets_from (suc most) bytes at)
     go (ended none) again = absurd (omega arith)
     go (passed m t goes) again =
+        let w = whole bytes at t.turned in
+        let bit = bit_here bytes at t.turned in
         let moves = t.turned.moves in
         rw (packets_more most bytes at m)
         (by_test (ltb (end_of bytes at) (length bytes))
-        (λ further. following most bytes at t.turned (ltb-true _ _ further) (again (ltb-true _ _ further) (omega arith) goes) t.padding)
-        (λ none. ending most bytes at t.turned (packets_none most bytes (end_of bytes at) (ltb-false _ _ none)) t.padding))
+        (λ further. before w (grind (arith, t.last)) (again (ltb-true _ _ further) (omega arith) goes))
+        (λ none.
+        rw (packets_none most bytes (end_of bytes at) (ltb-false _ _ none))
+        (by_test (eqb (padding_bit_of (drop at bytes)) 0)
+        (λ clear. plain w (grind arith))
+        (λ set. padded w (grind arith) (grind (arith, fits_here bytes at t.turned, t.fits))))))
 
 -- what is accepted is such packets
 pub passes_sound : (bytes : List ℕ) → first_pass bytes ≡ gave tt → Sound (packets_in bytes)
 unfolding pass_by first_pass
-passes_sound [] passes = never (cc)
+passes_sound [] passes = absurd (grind arith)
 passes_sound (b ∷ bytes) passes = sound_from (length (b ∷ bytes)) (b ∷ bytes) 0 (omega arith) (omega arith) (from_start (b ∷ bytes) passes)
 
 -- a turn at a whole packet, wherever it stands
@@ -99,41 +74,30 @@ module _ (pre p rest : List ℕ) (w : Whole p) where
   full = omega (arith, w.size)
 
   sizes : length all ≡ length pre + (length p + length rest)
-  sizes = length-append pre (p ++ rest) ∙ ap (λ (n : ℕ). length pre + n) (length-append p rest)
-
-  end_at : length pre + length p ≡ end_of all (length pre)
-  end_at = ap (λ (n : ℕ). length pre + n) (w.size ∙ sym (own_size p rest full) ∙ ap length_of (sym seam))
-
-  two_at : get_or all (length pre) 0 / 64 ≡ 2
-  two_at = sym (version-at all (length pre)) ∙ ap version_of seam ∙ own_version p rest full ∙ w.two
-
-  bit_at : get_or all (length pre) 0 / 32 % 2 ≡ padding_bit_of p
-  bit_at = sym (padding_at all (length pre)) ∙ ap padding_bit_of seam ∙ own_bit p rest full
+  sizes = grind (arith, common_steps)
 
   clear-turn : padding_bit_of p ≡ 0 → first_turn all (length pre) ≡ gave (length pre + length p)
-  clear-turn bit = turn-plain all (length pre) (length pre + length p) end_at (omega (arith, sizes, full)) two_at (omega (arith, sizes)) (bit_at ∙ bit)
+  unfolding first_turn
+  clear-turn bit = let size = w.size in let two = w.two in rw seam (grind (arith, common_steps))
 
   fits-turn : length rest ≡ 0 → padding_bit_of p ≡ 1 → padding_fits p ≡ true → first_turn all (length pre) ≡ gave (length pre + length p)
-  fits-turn none bit count =
-      turn-fits all (length pre) (length pre + length p) end_at (omega (arith, sizes, full)) two_at (omega (arith, sizes, none)) (λ e. absurd (omega (arith, bit_at, bit, e)))
-      (ap padding_fits seam ∙ own_fits p rest full w.size ∙ count)
+  unfolding first_turn
+  fits-turn none bit count = let size = w.size in let two = w.two in rw seam (grind (arith, common_steps, own_fits))
 
 passes_behind : (most : ℕ) (pre : List ℕ) {ps : List (List ℕ)} → Sound ps → turns_from first_turn most (pre ++ end_to_end ps) (length pre) ≡ gave tt
 unfolding end_to_end turns_from
-passes_behind zero pre s = refl
-passes_behind (suc most) pre (plain {p} w bit) =
-    turns_step most _ _ _ (omega (arith, sizes pre p [] w, full pre p [] w)) (clear-turn pre p [] w bit) ∙ turns_end most _ _ (omega (arith, sizes pre p [] w))
-passes_behind (suc most) pre (padded {p} w bit count) =
-    turns_step most _ _ _ (omega (arith, sizes pre p [] w, full pre p [] w)) (fits-turn pre p [] w refl bit count) ∙ turns_end most _ _ (omega (arith, sizes pre p [] w))
+passes_behind zero pre s = grind arith
+passes_behind (suc most) pre (plain {p} w bit) = grind (arith, turns_end most, sizes pre p [] w, full pre p [] w, clear-turn pre p [] w bit)
+passes_behind (suc most) pre (padded {p} w bit count) = grind (arith, turns_end most, sizes pre p [] w, full pre p [] w, fits-turn pre p [] w (omega arith) bit count)
 passes_behind (suc most) pre (before {p} {ps} w bit more) =
-    turns_step most _ _ _ (omega (arith, sizes pre p (end_to_end ps) w, full pre p (end_to_end ps) w)) (clear-turn pre p (end_to_end ps) w bit)
-    ∙ rw (← (append_assoc pre p (end_to_end ps)), ← (length-append pre p)) (passes_behind most (pre ++ p) more)
+    let rest = passes_behind most (pre ++ p) more in
+    grind (arith, common_steps, rest, sizes pre p (end_to_end ps) w, full pre p (end_to_end ps) w, clear-turn pre p (end_to_end ps) w bit)
 
 some_bytes : {ps : List (List ℕ)} → Sound ps → 0 < length (end_to_end ps)
 unfolding end_to_end
-some_bytes (plain {p} w bit) = omega (arith, sizes [] p [] w, full [] p [] w)
-some_bytes (padded {p} w bit count) = omega (arith, sizes [] p [] w, full [] p [] w)
-some_bytes (before {p} {ps} w bit more) = omega (arith, sizes [] p (end_to_end ps) w, full [] p (end_to_end ps) w)
+some_bytes (plain {p} w bit) = let size = w.size in grind (arith, common_steps)
+some_bytes (padded {p} w bit count) = let size = w.size in grind (arith, common_steps)
+some_bytes (before {p} {ps} w bit more) = let size = w.size in grind (arith, common_steps)
 
 -- and such packets, laid end to end, are accepted
 pub sound_passes : {ps : List (List ℕ)} → Sound ps → first_pass (end_to_end ps) ≡ gave tt

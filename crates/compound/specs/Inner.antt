@@ -1,15 +1,13 @@
 -- What the private functions promise.
-use Rattle.std.specs.Prelude.{ℕ, ◌+◌, ◌*◌, ◌-◌, ◌/◌, ◌<◌, Bool, false, cond, not, eqb, ltb, length, get_or, List, ◌≡◌}
+use Rattle.std.specs.Prelude.{ℕ, ◌+◌, ◌*◌, ◌-◌, ◌/◌, Bool, false, cond, not, eqb, ltb, length, get_or, List, Result, Ok, Err}
 use Rattle.refusal.specs.Outcome.{Outcome, gave}
 use Rattle.refusal.specs.Number.{no}
-use Rattle.compound.specs.Pass.{end_of}
-use Rattle.compound.specs.declared.Turn.{Turn}
-use Rattle.compound.specs.declared.Turn.TheVariants as turn
+use Rattle.refusal.specs.declared.Refusal.{Refusal}
+use Rattle.utils.specs.Header.{padding_bit_of}
 
--- the length field of the packet that starts at an offset
-pub record WordsBehind (bytes : List ℕ) (at words : ℕ) : Type 0 where
-  pub few : words < 65536
-  pub ends : at + 4 + 4 * words ≡ end_of bytes at
+-- whether the padding bit of the packet at the front is set
+abbrev pub is_padded : List ℕ → Bool
+is_padded packet = not (eqb (padding_bit_of packet) 0)
 
 -- a usual packet, which starts at a word: of version 2, without padding, of 1,024 bytes at most, and whole
 unfoldable pub is_usual : List ℕ → ℕ → Bool
@@ -19,6 +17,6 @@ is_usual bytes word =
     (ltb (get_or bytes (4 * word + 3) 0) (length bytes / 4 - word)))
 
 -- a turn counts in words of four bytes
-abbrev pub said_turn : Turn → Outcome ℕ
-said_turn (turn.Next word) = gave (4 * word)
-said_turn (turn.No r) = no r
+abbrev pub said_turn : Result ℕ Refusal → Outcome ℕ
+said_turn (Ok word) = gave (4 * word)
+said_turn (Err r) = no r

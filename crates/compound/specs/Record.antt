@@ -14,10 +14,13 @@ padding_of packet = cond (eqb (padding_bit_of packet) 0) 0 (last_byte_of packet)
 unfoldable pub misfits : List ℕ → Bool
 misfits packet = cond (eqb (padding_bit_of packet) 0) false (not (padding_fits packet))
 
--- the record of the packet that starts at an offset: the body is what header and padding leave
+-- the record of the packet that stands at the front, where that starts at an offset: the body is what header and padding leave
+abbrev pub record_at : ℕ → List ℕ → Packet
+record_at start packet = record { start = start; length = length_of packet; body = length_of packet - (shortest + padding_of packet); padding = padding_of packet }
+
+-- of the packet that starts at an offset
 abbrev pub packet_at : List ℕ → ℕ → Packet
-packet_at bytes at =
-    record { start = at; length = length_of (drop at bytes); body = length_of (drop at bytes) - (shortest + padding_of (drop at bytes)); padding = padding_of (drop at bytes) }
+packet_at bytes at = record_at at (drop at bytes)
 
 -- header, body and padding are the whole packet
 abbrev pub AddsUp : Packet → Type 0

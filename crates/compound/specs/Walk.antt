@@ -1,5 +1,5 @@
 -- The walk from packet to packet, a step at a time, from any offset.
-use Rattle.std.specs.Prelude.{ℕ, ◌+◌, List, [], ◌∷◌, cond, not, length, drop, eqb, ltb, leb}
+use Rattle.std.specs.Prelude.{ℕ, ◌+◌, List, [], ◌∷◌, Option, Some, None, cond, not, length, drop, eqb, ltb, leb}
 use Rattle.std.specs.Borrow.{Bor}
 use Rattle.refusal.specs.Outcome.{Outcome, gave, refused, refuse}
 use Rattle.lent.specs.Part.{PartOf}
@@ -8,27 +8,25 @@ use Rattle.compound.specs.Pass.{end_of}
 use Rattle.compound.specs.Record.{packet_at, misfits}
 use Rattle.compound.specs.declared.Packet.{Packet}
 
--- what a step meets
-pub data Met : Type 0 where
-  over : Met
-  packet : Packet → Met
-
--- what it meets, and where the walk goes on
+-- what a step meets, a packet or none where the walk is over, and where the walk goes on
 pub data Step : Type 0 where
-  step : Outcome Met → ℕ → Step
+  step : Outcome (Option Packet) → ℕ → Step
 
 -- the walk ends: it goes on at the end of the bytes
-abbrev pub last : List ℕ → Outcome Met → Step
+abbrev pub last : List ℕ → Outcome (Option Packet) → Step
 last bytes met = step met (length bytes)
 
 unfoldable pub walk_step : List ℕ → ℕ → Step
 walk_step bytes at =
-    cond (leb (length bytes) at) (last bytes (gave over))
+    cond (leb (length bytes) at) (last bytes (gave None))
     (cond (ltb (length bytes) (at + 4)) (last bytes (refuse 1 ((at + 4) ∷ length bytes ∷ [])))
     (cond (ltb (length bytes) (end_of bytes at)) (last bytes (refuse 1 (end_of bytes at ∷ length bytes ∷ [])))
     (cond (not (eqb (version_of (drop at bytes)) 2)) (last bytes (refuse 2 (version_of (drop at bytes) ∷ [])))
     (cond (misfits (drop at bytes)) (last bytes (refuse 5 []))
-    (step (gave (packet (packet_at bytes at))) (end_of bytes at))))))
+    (step (gave (Some (packet_at bytes at))) (end_of bytes at))))))
+
+abbrev pub met_of : Step → Outcome (Option Packet)
+met_of (step met next) = met
 
 abbrev pub next_of : Step → ℕ
 next_of (step met next) = next
@@ -42,8 +40,8 @@ pub record Span : Type 0 where
   pub length : ℕ
 
 abbrev pub span_of : Step → Span
-span_of (step (gave (packet p)) next) = record { start = p.start; length = p.length }
-span_of (step (gave over) next) = record { start = 0; length = 0 }
+span_of (step (gave (Some p)) next) = record { start = p.start; length = p.length }
+span_of (step (gave None) next) = record { start = 0; length = 0 }
 span_of (step (refused number values) next) = record { start = 0; length = 0 }
 
 unfoldable pub walk_part : List ℕ → ℕ → Span

@@ -1,267 +1,178 @@
 // Runs the fixed examples of docs/RULES.md that are not marked P, in its order, and prints what each call answers.
 #![tactic(auto)]
 
-use arrival::{Arrival, Arrivals, Begun};
+use arrival::{Arrival, Arrivals};
 use compound::Packet;
 use kinds::{RefTime, Seq, Tick};
-use refusal::{Checked, Number, Refusal};
+use refusal::{Refusal, Told};
+use std::fmt::Display;
 use std::io;
-use twcc_plan::Limit;
-use twcc_read::Reading;
-use twcc_write::Written;
 
-fn say(rt: &impl Print, text: &[u8]) -> io::Result<()> {
-    rt.write_all(text)
+fn say_refused(rt: &impl Print, r: Refusal) -> io::Result<()> {
+    let told = Told::from(r);
+    println!(rt; " refused {}: {} {}", told.number, told.first, told.second)
 }
 
-fn say_number(rt: &impl Print, n: u64) -> io::Result<()> {
-    rt.print(n)
-}
-
-fn say_values(rt: &impl Print, r: Refusal) -> io::Result<()> {
-    let told = refusal::tell(r);
-    say(rt, b"refused ")?;
-    say_number(rt, told.number)?;
-    say(rt, b": ")?;
-    say_number(rt, told.first)?;
-    say(rt, b" ")?;
-    say_number(rt, told.second)?;
-    say(rt, b"\n")
-}
-
-fn say_parse(rt: &impl Print, label: &[u8], bytes: &[u8]) -> io::Result<()> {
-    say(rt, label)?;
-    match compound::parse(bytes) {
-        Checked::Fine => say(rt, b" parses\n"),
-        Checked::No(r) => {
-            say(rt, b" ")?;
-            say_values(rt, r)
-        }
+// The answer of a test, which is these words where nothing is refused.
+fn say_test(
+    rt: &impl Print,
+    label: &str,
+    answer: Result<(), Refusal>,
+    fine: &str,
+) -> io::Result<()> {
+    print!(rt; "{label}")?;
+    match answer {
+        Ok(()) => println!(rt; " {fine}"),
+        Err(r) => say_refused(rt, r),
     }
 }
 
-fn say_record(rt: &impl Print, label: &[u8], packet: &[u8], p: Packet) -> io::Result<()> {
-    say(rt, label)?;
-    match compound::check_record(packet, p) {
-        Checked::Fine => say(rt, b" is of them\n"),
-        Checked::No(r) => {
-            say(rt, b" ")?;
-            say_values(rt, r)
-        }
+fn say_parse(rt: &impl Print, label: &str, bytes: &[u8]) -> io::Result<()> {
+    say_test(rt, label, compound::parse(bytes), "parses")
+}
+
+fn say_record(rt: &impl Print, label: &str, packet: &[u8], p: Packet) -> io::Result<()> {
+    say_test(rt, label, compound::check_record(packet, p), "is of them")
+}
+
+// In hex; numbers, below, as they are.
+fn say_bytes(rt: &impl Print, bytes: &[u8]) -> io::Result<()> {
+    for byte in bytes {
+        print!(rt; " {byte:02x}")?;
     }
+    println!(rt)
 }
 
-fn say_byte(rt: &impl Print, byte: u8) -> io::Result<()> {
-    say(rt, b" ")?;
-    print!(rt; "{byte:02x}")
-}
-
-fn say_listed(rt: &impl Print, number: u16) -> io::Result<()> {
-    say(rt, b" ")?;
-    say_number(rt, number as u64)
-}
-
-// The first so many bytes.
-fn say_bytes(rt: &impl Print, bytes: &[u8], count: usize) -> io::Result<()> {
-    let mut i = 0;
-    while i < count {
-        if i < bytes.len() {
-            say_byte(rt, bytes[i])?;
-        }
-        i += 1;
+fn say_numbers<N: Display>(rt: &impl Print, numbers: &[N]) -> io::Result<()> {
+    for number in numbers {
+        print!(rt; " {number}")?;
     }
-    say(rt, b"\n")
-}
-
-// The first so many numbers.
-fn say_numbers(rt: &impl Print, numbers: &[u16], count: usize) -> io::Result<()> {
-    let mut i = 0;
-    while i < count {
-        if i < numbers.len() {
-            say_listed(rt, numbers[i])?;
-        }
-        i += 1;
-    }
-    say(rt, b"\n")
+    println!(rt)
 }
 
 // The bytes that the set of two numbers is written as.
-fn say_nack_write(rt: &impl Print, label: &[u8], first: u16, second: u16) -> io::Result<()> {
-    say(rt, label)?;
+fn say_nack_write(rt: &impl Print, label: &str, first: Seq, second: Seq) -> io::Result<()> {
+    print!(rt; "{label}")?;
     let mut store = [0u8; 8192];
-    nack_store::add(&mut store, Seq(first));
-    nack_store::add(&mut store, Seq(second));
+    let _ = nack_store::add(&mut store, first);
+    let _ = nack_store::add(&mut store, second);
     let mut out = [0u8; 8];
     match nack_write::write(&store, &mut out) {
-        Number::Is(n) => say_bytes(rt, &out, n),
-        Number::No(r) => say_values(rt, r),
+        Ok(n) => say_bytes(rt, &out[..n.min(out.len())]),
+        Err(r) => say_refused(rt, r),
     }
 }
 
 // The numbers that bytes name.
-fn say_nack_read(rt: &impl Print, label: &[u8], bytes: &[u8]) -> io::Result<()> {
-    say(rt, label)?;
+fn say_nack_read(rt: &impl Print, label: &str, bytes: &[u8]) -> io::Result<()> {
+    print!(rt; "{label}")?;
     let mut list = [0u16; 3];
     match nack_read::read(bytes, &mut list) {
-        Number::Is(n) => say_numbers(rt, &list, n),
-        Number::No(r) => say_values(rt, r),
+        Ok(n) => say_numbers(rt, &list[..n.min(list.len())]),
+        Err(r) => say_refused(rt, r),
     }
 }
 
 // The block of a list at base 1, time 0 and feedback count 0.
-fn say_block(rt: &impl Print, label: &[u8], list: &[i32], limit: Limit) -> io::Result<()> {
-    say(rt, label)?;
+fn say_block(rt: &impl Print, label: &str, list: &[i32], limit: Option<usize>) -> io::Result<()> {
+    print!(rt; "{label}")?;
     let mut out = [0u8; 24];
     match twcc_write::write(Seq(1), RefTime(0), 0, list, limit, &mut out) {
-        Written::Block(used) => {
-            say(rt, b" takes ")?;
-            say_number(rt, used.taken as u64)?;
-            say(rt, b":")?;
-            say_bytes(rt, &out, used.bytes)
+        Ok(used) => {
+            print!(rt; " takes {}:", used.taken)?;
+            say_bytes(rt, &out[..used.bytes.min(out.len())])
         }
-        Written::No(r) => {
-            say(rt, b" ")?;
-            say_values(rt, r)
-        }
+        Err(r) => say_refused(rt, r),
     }
-}
-
-// A status word: the reading example has 9.
-fn say_word(rt: &impl Print, word: i32) -> io::Result<()> {
-    if word == 9 {
-        return say(rt, b" 9");
-    }
-    say(rt, b" another")
-}
-
-fn say_words(rt: &impl Print, words: &[i32], count: usize) -> io::Result<()> {
-    let mut i = 0;
-    while i < count {
-        if i < words.len() {
-            say_word(rt, words[i])?;
-        }
-        i += 1;
-    }
-    say(rt, b"\n")
 }
 
 // What a block reads as: the base, then the words.
-fn say_twcc_read(rt: &impl Print, label: &[u8], block: &[u8]) -> io::Result<()> {
-    say(rt, label)?;
+fn say_twcc_read(rt: &impl Print, label: &str, block: &[u8]) -> io::Result<()> {
+    print!(rt; "{label}")?;
     let mut list = [0i32; 2];
     match twcc_read::read(block, &mut list) {
-        Reading::Block(listed) => {
-            let header = listed.header;
-            let base = header.base;
-            say(rt, b" from")?;
-            say_listed(rt, base.0)?;
-            say(rt, b":")?;
-            say_words(rt, &list, listed.count)
+        Ok(listed) => {
+            print!(rt; " from {}:", listed.header.base.0)?;
+            say_numbers(rt, &list[..listed.count.min(list.len())])
         }
-        Reading::No(r) => {
-            say(rt, b" ")?;
-            say_values(rt, r)
-        }
+        Err(r) => say_refused(rt, r),
     }
 }
 
-fn say_begun(rt: &impl Print, label: &[u8], time: u32) -> io::Result<()> {
-    say(rt, label)?;
-    match Arrivals::of(RefTime(time)) {
-        Begun::Arrivals(_) => say(rt, b" begins\n"),
-        Begun::No(r) => {
-            say(rt, b" ")?;
-            say_values(rt, r)
-        }
-    }
+fn say_begun(rt: &impl Print, label: &str, time: RefTime) -> io::Result<()> {
+    let answer = Arrivals::of(time).map(|_| ());
+    say_test(rt, label, answer, "begins")
 }
 
 // The entry of a word behind a tick.
-fn say_arrival(rt: &impl Print, label: &[u8], tick: i64, word: i32) -> io::Result<()> {
-    say(rt, label)?;
-    let arrivals = Arrivals::From(Tick(tick));
-    let entry = arrivals.next(word);
-    let arrival = entry.arrival;
-    match arrival {
-        Arrival::At(tick) => {
-            say(rt, b" arrived at ")?;
-            say_number(rt, arrival::bits(tick))?;
-            say(rt, b"\n")
-        }
-        Arrival::Unplaced => say(rt, b" is unplaced\n"),
-        _ => say(rt, b" is another\n"),
+fn say_arrival(rt: &impl Print, label: &str, tick: Tick, word: i32) -> io::Result<()> {
+    let arrivals = Arrivals { from: Some(tick) };
+    match arrivals.next(word).arrival {
+        Arrival::At(tick) => println!(rt; "{label} arrived at {}", tick.0),
+        Arrival::Unplaced => println!(rt; "{label} is unplaced"),
+        _ => println!(rt; "{label} is another"),
     }
 }
 
 fn blocks_written(rt: &impl Print) -> io::Result<()> {
-    say(rt, b"TWCC, writing\n")?;
+    println!(rt; "TWCC, writing")?;
     let lost = [32768i32; 8192];
-    say_block(rt, b"8,192 not received", &lost, Limit::Absent)?;
-    say_block(rt, b"delta 256", &[256], Limit::Absent)?;
-    say_block(rt, b"delta -1", &[-1], Limit::Absent)?;
+    say_block(rt, "8,192 not received", &lost, None)?;
+    say_block(rt, "delta 256", &[256], None)?;
+    say_block(rt, "delta -1", &[-1], None)?;
     let large = [256i32; 8];
-    say_block(rt, b"8 large, limit 24", &large, Limit::Bytes(24))
+    say_block(rt, "8 large, limit 24", &large, Some(24))
 }
 
 fn blocks_read(rt: &impl Print) -> io::Result<()> {
-    say(rt, b"TWCC, reading\n")?;
+    println!(rt; "TWCC, reading")?;
     say_twcc_read(
         rt,
-        b"00 05 00 01 00 00 00 00 20 00 20 01 09",
+        "00 05 00 01 00 00 00 00 20 00 20 01 09",
         b"\x00\x05\x00\x01\x00\x00\x00\x00\x20\x00\x20\x01\x09",
     )
 }
 
 fn arrivals(rt: &impl Print) -> io::Result<()> {
-    say(rt, b"Arrivals\n")?;
-    say_begun(rt, b"time 16777215", 16777215)?;
-    say_begun(rt, b"time 16777216", 16777216)?;
-    say_arrival(rt, b"delta 1 behind 2^53 - 2", 9007199254740990, 1)?;
-    say_arrival(rt, b"delta 1 behind 2^53 - 1", 9007199254740991, 1)?;
-    say_arrival(rt, b"delta -1 behind 2^53", 9007199254740992, -1)?;
-    say_arrival(
-        rt,
-        b"delta 32767 behind 2^63 - 1",
-        9223372036854775807,
-        32767,
-    )?;
-    say_arrival(
-        rt,
-        b"delta -32768 behind -2^63",
-        -9223372036854775808,
-        -32768,
-    )
+    println!(rt; "Arrivals")?;
+    say_begun(rt, "time 16777215", RefTime(16777215))?;
+    say_begun(rt, "time 16777216", RefTime(16777216))?;
+    say_arrival(rt, "delta 1 behind 2^53 - 2", Tick(9007199254740990), 1)?;
+    say_arrival(rt, "delta 1 behind 2^53 - 1", Tick(9007199254740991), 1)?;
+    say_arrival(rt, "delta -1 behind 2^53", Tick(9007199254740992), -1)?;
+    say_arrival(rt, "delta 32767 behind 2^63 - 1", Tick(i64::MAX), 32767)?;
+    say_arrival(rt, "delta -32768 behind -2^63", Tick(i64::MIN), -32768)
 }
 
 fn nacks(rt: &impl Print) -> io::Result<()> {
-    say(rt, b"Generic NACK\n")?;
-    say_nack_write(rt, b"{65535, 0}:", 65535, 0)?;
-    say_nack_read(rt, b"00 0A 00 03 FF:", b"\x00\x0a\x00\x03\xff")
+    println!(rt; "Generic NACK")?;
+    say_nack_write(rt, "{65535, 0}:", Seq(65535), Seq(0))?;
+    say_nack_read(rt, "00 0A 00 03 FF:", b"\x00\x0a\x00\x03\xff")
 }
 
 fn compounds(rt: &impl Print) -> io::Result<()> {
-    say(rt, b"Compounds\n")?;
+    println!(rt; "Compounds")?;
     say_parse(
         rt,
-        b"80 CB 00 00 40 CB 00 00",
+        "80 CB 00 00 40 CB 00 00",
         b"\x80\xcb\x00\x00\x40\xcb\x00\x00",
     )?;
     say_parse(
         rt,
-        b"A0 CB 00 00 80 CB 00 00",
+        "A0 CB 00 00 80 CB 00 00",
         b"\xa0\xcb\x00\x00\x80\xcb\x00\x00",
     )?;
-    say_parse(rt, b"80 CB 00 01", b"\x80\xcb\x00\x01")?;
-    say_parse(rt, b"80 CB 00 00 80", b"\x80\xcb\x00\x00\x80")?;
-    say_parse(rt, b"00 CB 00 01", b"\x00\xcb\x00\x01")?;
+    say_parse(rt, "80 CB 00 01", b"\x80\xcb\x00\x01")?;
+    say_parse(rt, "80 CB 00 00 80", b"\x80\xcb\x00\x00\x80")?;
+    say_parse(rt, "00 CB 00 01", b"\x00\xcb\x00\x01")?;
     say_parse(
         rt,
-        b"A0 CB 00 01 00 00 00 04",
+        "A0 CB 00 01 00 00 00 04",
         b"\xa0\xcb\x00\x01\x00\x00\x00\x04",
     )?;
     say_parse(
         rt,
-        b"A0 CB 00 01 00 00 00 02",
+        "A0 CB 00 01 00 00 00 02",
         b"\xa0\xcb\x00\x01\x00\x00\x00\x02",
     )
 }
@@ -276,24 +187,24 @@ fn record(length: usize, body: usize, padding: usize) -> Packet {
 }
 
 fn records(rt: &impl Print) -> io::Result<()> {
-    say(rt, b"Packet records\n")?;
+    println!(rt; "Packet records")?;
     say_record(
         rt,
-        b"A0 CB 00 01 00 00 00 02, body 2, padding 2",
+        "A0 CB 00 01 00 00 00 02, body 2, padding 2",
         b"\xa0\xcb\x00\x01\x00\x00\x00\x02",
         record(8, 2, 2),
     )?;
     say_record(
         rt,
-        b"80 CB 00 00, length 8, body 4",
+        "80 CB 00 00, length 8, body 4",
         b"\x80\xcb\x00\x00",
         record(8, 4, 0),
     )?;
     say_record(
         rt,
-        b"80 CB 00 00, body 2^64 - 1, padding 1",
+        "80 CB 00 00, body 2^64 - 1, padding 1",
         b"\x80\xcb\x00\x00",
-        record(4, 18446744073709551615, 1),
+        record(4, usize::MAX, 1),
     )
 }
 

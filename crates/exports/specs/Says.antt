@@ -1,16 +1,16 @@
 -- What the C interface's struct says of an outcome, and the values that each kind of answer has there.
-use Rattle.std.specs.Prelude.{ℕ, zero, suc, List, [], ◌∷◌, ◌≡◌, Bool, true, false, ℤ, pos}
+use Rattle.std.specs.Prelude.{ℕ, zero, suc, List, [], ◌∷◌, ◌≡◌, Bool, true, false, Option, Some, None, ℤ, pos, Float}
 use Rattle.refusal.specs.Outcome.{Outcome, gave, refused}
 use Rattle.refusal.specs.Told.{value_bits}
-use Rattle.utils.specs.Check.{Padding, clear, byte}
-use Rattle.compound.specs.Walk.{Met, over, packet, Step, step}
-use Rattle.arrival.specs.Cursor.{from}
+use Rattle.kinds.specs.declared.Tick.{Tick}
+use Rattle.compound.specs.Walk.{Step, step}
+use Rattle.compound.specs.declared.Packet.{Packet}
+use Rattle.arrival.specs.Cursor.{from, lost}
 use Rattle.arrival.specs.Overlay.{shown_of, shown_bits}
 use Rattle.arrival.specs.declared.Arrivals.{Arrivals}
-use Rattle.arrival.specs.declared.Arrivals.TheVariants.{From, Lost}
 use Rattle.arrival.specs.declared.Entry.{Entry}
-use Rattle.arrival.specs.declared.Overlay.{Overlay}
-use Rattle.arrival.specs.declared.Overlay.TheVariants.{Missing, Unreadable, Unplaced, Arrived}
+use Rattle.arrival.specs.declared.Arrival.{Arrival}
+use Rattle.arrival.specs.declared.Arrival.TheVariants.{Missing, Unreadable, Unplaced, At}
 use Rattle.twcc_read.specs.declared.Listed.{Listed}
 use Rattle.twcc_write.specs.declared.Used.{Used}
 use Rattle.exports.specs.declared.Said.{Said}
@@ -45,17 +45,17 @@ unfoldable pub number : Outcome ℕ → Outcome (List ℤ)
 number = answered (λ n. pos n ∷ [])
 
 -- 0 where the bit is clear; 1, byte
-abbrev pub padding_values : Padding → List ℤ
-padding_values clear = pos 0 ∷ []
-padding_values (byte b) = pos 1 ∷ pos b ∷ []
+abbrev pub padding_values : Option ℕ → List ℤ
+padding_values None = pos 0 ∷ []
+padding_values (Some b) = pos 1 ∷ pos b ∷ []
 
-unfoldable pub padding : Outcome Padding → Outcome (List ℤ)
+unfoldable pub padding : Outcome (Option ℕ) → Outcome (List ℤ)
 padding = answered padding_values
 
 -- 0, next offset, start, length, body, padding of a packet; 1, the end where the walk is over
-abbrev pub walk_values : Met → ℕ → List ℤ
-walk_values (packet p) next = pos 0 ∷ pos next ∷ pos p.start ∷ pos p.length ∷ pos p.body ∷ pos p.padding ∷ []
-walk_values over next = pos 1 ∷ pos next ∷ []
+abbrev pub walk_values : Option Packet → ℕ → List ℤ
+walk_values (Some p) next = pos 0 ∷ pos next ∷ pos p.start ∷ pos p.length ∷ pos p.body ∷ pos p.padding ∷ []
+walk_values None next = pos 1 ∷ pos next ∷ []
 
 unfoldable pub walk : Step → Outcome (List ℤ)
 walk (step found next) = answered (λ met. walk_values met next) found
@@ -71,13 +71,19 @@ unfoldable pub block : Outcome Used → Outcome (List ℤ)
 block = answered (λ used. pos used.bytes ∷ pos used.taken ∷ [])
 
 -- whether a cursor is placed, and its ticks; 0 where they are lost
+abbrev pub placed_by : Option Tick → ℕ
+placed_by (Some tick) = 1
+placed_by None = 0
+
+abbrev pub tick_by : Option Tick → ℤ
+tick_by (Some tick) = tick.0
+tick_by None = pos 0
+
 abbrev pub placed_of : Arrivals → ℕ
-placed_of (From tick) = 1
-placed_of Lost = 0
+placed_of c = placed_by c.from
 
 abbrev pub tick_of : Arrivals → ℤ
-tick_of (From tick) = tick.0
-tick_of Lost = pos 0
+tick_of c = tick_by c.from
 
 unfoldable pub started : Outcome Arrivals → Outcome (List ℤ)
 started = answered (λ c. pos (placed_of c) ∷ tick_of c ∷ [])
@@ -85,14 +91,14 @@ started = answered (λ c. pos (placed_of c) ∷ tick_of c ∷ [])
 -- the cursor that a caller's numbers stand for
 abbrev pub cursor : Bool → ℤ → Arrivals
 cursor true ticks = from ticks
-cursor false ticks = Lost
+cursor false ticks = lost
 
 -- the number of a display's case
-abbrev pub case_of : Overlay → ℕ
+abbrev pub case_of : Arrival Float → ℕ
 case_of Missing = 0
 case_of Unreadable = 1
 case_of Unplaced = 2
-case_of (Arrived milliseconds) = 3
+case_of (At milliseconds) = 3
 
 -- the case, the milliseconds' bits, placed and ticks for the next call
 unfoldable pub entry : Entry → Outcome (List ℤ)

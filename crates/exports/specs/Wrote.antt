@@ -1,6 +1,5 @@
 -- What the exported calls promise that change lent memory: the answer, and the whole memory.
-use Rattle.std.specs.Prelude.{ℕ, List, ◌≡◌, Bool, true, false, ℤ, length}
-use Rattle.std.proofs.Math.Option.{Option, none, some}
+use Rattle.std.specs.Prelude.{ℕ, List, ◌≡◌, Bool, true, false, Option, Some, None, ℤ, length}
 use Rattle.std.proofs.lemmas.List.Edits.{sets}
 use Rattle.refusal.specs.Outcome.{Outcome}
 use Rattle.lent.specs.Fills.{held}
@@ -40,8 +39,8 @@ ReadTwcc block list = Wrote listed_block (read_answer block (length list)) (sets
 
 -- a limit that is looked at only where it is given
 abbrev pub given : Bool → ℕ → Option ℕ
-given true limit = some limit
-given false limit = none
+given true limit = Some limit
+given false limit = None
 
 abbrev pub WroteTwcc : ℕ → ℕ → ℕ → List ℤ → Option ℕ → List ℕ → Said → List ℕ → Type 0
 WroteTwcc base time feedback list limit old =

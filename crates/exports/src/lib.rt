@@ -2,28 +2,22 @@
 // plain names, each answer a struct of numbers. A call promises what the function behind it promises.
 #![tactic(auto)]
 
-ghost use Rattle.std.specs.Prelude.{◌≡◌, [], ◌∷◌, pos};
+ghost use Rattle.std.specs.Prelude.{◌≡◌, ◌≤◌, map, pos};
 ghost use Rattle.octets.specs.Signed.{bits64};
 ghost use Rattle.refusal.specs.Number.{no};
-ghost use Rattle.refusal.specs.Said.{said_checked, said_number};
+ghost use Rattle.refusal.specs.Said.{said};
 ghost use Rattle.utils.specs.Header.{version_of, padding_bit_of, count_of, type_of, length_of};
 ghost use Rattle.utils.specs.Check.{field, padding_byte, check_packet};
 ghost use Rattle.unknown.specs.Parse.{unknown};
 ghost use Rattle.compound.specs.Pass.{first_pass};
 ghost use Rattle.compound.specs.Walk.{walk_step};
 ghost use Rattle.arrival.specs.Cursor.{begun, next_arrival};
-ghost use Rattle.twcc_write.specs.Promise.{said_written};
 ghost use Rattle.exports.specs.Says.{says, Answers, nothing, number, padding, walk, block, placed_of, tick_of, started, cursor, entry};
 ghost use Rattle.exports.specs.Wrote.{WroteUnknown, AddedNack, ReadNack, WroteNack, ReadTwcc, given, WroteTwcc};
 
-use arrival::{Arrivals, Begun, Entry, Overlay};
-use compound::Found;
+use arrival::{Arrival, Arrivals, Entry};
 use kinds::{RefTime, Seq, Tick};
-use refusal::{Checked, Number, Refusal};
-use twcc_plan::Limit;
-use twcc_read::Reading;
-use twcc_write::Written;
-use utils::Padded;
+use refusal::{Refusal, Told};
 
 // Number 0 and the answer's values, or a refusal's number and its values; the rest 0.
 #[repr(C)]
@@ -33,74 +27,46 @@ pub struct Said {
     pub values: [u64; 8],
 }
 
-// Answers by how many values they have.
-
-fn six(a: u64, b: u64, c: u64, d: u64, e: u64, f: u64) -> Said
-    ensures { result ≡ says 0 (pos a ∷ pos b ∷ pos c ∷ pos d ∷ pos e ∷ pos f ∷ []) }
+// An answer of a few values.
+fn given<const N: usize>(values: [u64; N]) -> Said
+    requires { N ≤ 8 }
+    ensures { result ≡ says 0 (map pos values.entry) }
 {
+    let mut all = [0; 8];
+    all[..N].copy_from_slice(&values);
     Said {
         number: 0,
-        values: [a, b, c, d, e, f, 0, 0],
+        values: all,
     }
-}
-
-fn five(a: u64, b: u64, c: u64, d: u64, e: u64) -> Said
-    ensures { result ≡ says 0 (pos a ∷ pos b ∷ pos c ∷ pos d ∷ pos e ∷ []) }
-{
-    six(a, b, c, d, e, 0)
-}
-
-fn four(a: u64, b: u64, c: u64, d: u64) -> Said
-    ensures { result ≡ says 0 (pos a ∷ pos b ∷ pos c ∷ pos d ∷ []) }
-{
-    five(a, b, c, d, 0)
-}
-
-fn two(a: u64, b: u64) -> Said
-    ensures { result ≡ says 0 (pos a ∷ pos b ∷ []) }
-{
-    five(a, b, 0, 0, 0)
-}
-
-fn one(a: u64) -> Said
-    ensures { result ≡ says 0 (pos a ∷ []) }
-{
-    two(a, 0)
-}
-
-fn none() -> Said
-    ensures { result ≡ says 0 [] }
-{
-    one(0)
 }
 
 fn refused(r: Refusal) -> Said
     ensures { Answers (no r) result }
 {
-    let told = refusal::tell(r);
-    let said = two(told.first, told.second);
-    let values = said.values;
+    let told = Told::from(r);
     Said {
         number: told.number,
-        values: values,
+        values: [told.first, told.second, 0, 0, 0, 0, 0, 0],
     }
 }
 
-fn said_checked(answer: Checked) -> Said
-    ensures { Answers (nothing (said_checked answer)) result }
+#[tactic(auto, unfolding(crate::specs::Says::said_of, crate::specs::Says::nothing))]
+fn said_checked(answer: Result<(), Refusal>) -> Said
+    ensures { Answers (nothing (said answer)) result }
 {
     match answer {
-        Checked::Fine => none(),
-        Checked::No(r) => refused(r),
+        Ok(()) => given([]),
+        Err(r) => refused(r),
     }
 }
 
-fn said_number(answer: Number) -> Said
-    ensures { Answers (number (said_number answer)) result }
+#[tactic(auto, unfolding(crate::specs::Says::said_of, crate::specs::Says::number))]
+fn said_number(answer: Result<usize, Refusal>) -> Said
+    ensures { Answers (number (said answer)) result }
 {
     match answer {
-        Number::Is(n) => one(n as u64),
-        Number::No(r) => refused(r),
+        Ok(n) => given([n as u64]),
+        Err(r) => refused(r),
     }
 }
 
@@ -134,13 +100,14 @@ pub fn bog_length(packet: &[u8]) -> Said
     said_number(utils::parse_length(packet))
 }
 
+#[tactic(auto, unfolding(crate::specs::Says::said_of, crate::specs::Says::padding))]
 pub fn bog_padding(packet: &[u8]) -> Said
     ensures { Answers (padding (padding_byte packet.now)) result }
 {
     match utils::parse_padding(packet) {
-        Padded::Clear => one(0),
-        Padded::Byte(byte) => two(1, byte as u64),
-        Padded::No(r) => refused(r),
+        Ok(None) => given([0]),
+        Ok(Some(byte)) => given([1, u64::from(byte)]),
+        Err(r) => refused(r),
     }
 }
 
@@ -162,24 +129,23 @@ pub fn bog_unknown_parse(packet: &[u8]) -> Said
     said_checked(unknown::parse(packet))
 }
 
+#[tactic(auto, unfolding(crate::specs::Says::said_of, crate::specs::Says::walk))]
 pub fn bog_walk_step(bytes: &[u8], offset: u64) -> Said
     ensures { Answers (walk (walk_step bytes.now offset)) result }
 {
-    let at = offset as usize;
-    let walked = compound::walk_step(bytes, at);
-    let next = walked.next;
-    let found = walked.found;
-    match found {
-        Found::Packet(p) => six(
+    let walked = compound::walk_step(bytes, offset as usize);
+    let next = walked.next as u64;
+    match walked.found {
+        Ok(Some(p)) => given([
             0,
-            next as u64,
+            next,
             p.start as u64,
             p.length as u64,
             p.body as u64,
             p.padding as u64,
-        ),
-        Found::Over => two(1, next as u64),
-        Found::No(r) => refused(r),
+        ]),
+        Ok(None) => given([1, next]),
+        Err(r) => refused(r),
     }
 }
 
@@ -213,28 +179,26 @@ pub fn bog_nack_write(store: &[u8], out: &mut [u8]) -> Said
     said_number(nack_write::write(store, out))
 }
 
+#[tactic(auto, unfolding(crate::specs::Says::said_of, crate::specs::Says::listed_block))]
 pub fn bog_twcc_read(block: &[u8], list: &mut [i32]) -> Said
     ensures { ReadTwcc block.now list.old result list.new }
 {
     match twcc_read::read(block, list) {
-        Reading::Block(listed) => {
-            let count = listed.count;
+        Ok(listed) => {
             let header = listed.header;
-            let base = header.base;
-            let time = header.time;
-            five(
-                base.0 as u64,
-                header.statuses as u64,
-                time.0 as u64,
-                header.feedback as u64,
-                count as u64,
-            )
+            given([
+                u64::from(header.base.0),
+                u64::from(header.statuses),
+                u64::from(header.time.0),
+                u64::from(header.feedback),
+                listed.count as u64,
+            ])
         }
-        Reading::No(r) => refused(r),
+        Err(r) => refused(r),
     }
 }
 
-// A cursor as plain numbers.
+// A cursor as the plain numbers that C passes: whether it is placed, and its ticks.
 #[derive(Clone, Copy)]
 struct State {
     placed: u64,
@@ -244,66 +208,54 @@ struct State {
 fn plain(arrivals: Arrivals) -> State
     ensures { (result.placed ≡ placed_of arrivals) × (result.ticks ≡ bits64 (tick_of arrivals)) }
 {
-    match arrivals {
-        Arrivals::From(tick) => State {
+    match arrivals.from {
+        Some(tick) => State {
             placed: 1,
             ticks: arrival::bits(tick),
         },
-        Arrivals::Lost => State {
+        None => State {
             placed: 0,
             ticks: 0,
         },
     }
 }
 
+#[tactic(auto, unfolding(crate::specs::Says::said_of, crate::specs::Says::started))]
 pub fn bog_arrivals(time: u32) -> Said
     ensures { Answers (started (begun time)) result }
 {
     match Arrivals::of(RefTime(time)) {
-        Begun::Arrivals(arrivals) => {
+        Ok(arrivals) => {
             let now = plain(arrivals);
-            two(now.placed, now.ticks)
+            given([now.placed, now.ticks])
         }
-        Begun::No(r) => refused(r),
+        Err(r) => refused(r),
     }
 }
 
+#[tactic(auto, unfolding(crate::specs::Says::said_of, crate::specs::Says::entry))]
 fn said_entry(met: Entry) -> Said
     ensures { Answers (entry met) result }
 {
-    let arrival = met.arrival;
-    let after = met.next;
-    let next = plain(after);
-    match arrival.shown() {
-        Overlay::Missing => four(0, 0, next.placed, next.ticks),
-        Overlay::Unreadable => four(1, 0, next.placed, next.ticks),
-        Overlay::Unplaced => four(2, 0, next.placed, next.ticks),
-        Overlay::Arrived(milliseconds) => {
-            four(3, f64::to_bits(milliseconds), next.placed, next.ticks)
-        }
+    let next = plain(met.next);
+    match met.arrival.shown() {
+        Arrival::Missing => given([0, 0, next.placed, next.ticks]),
+        Arrival::Unreadable => given([1, 0, next.placed, next.ticks]),
+        Arrival::Unplaced => given([2, 0, next.placed, next.ticks]),
+        Arrival::At(milliseconds) => given([3, milliseconds.to_bits(), next.placed, next.ticks]),
     }
 }
 
+// C has no `Option`: a flag says whether there is a tick.
 pub fn bog_arrivals_next(placed: bool, ticks: i64, word: i32) -> Said
     ensures { Answers (entry (next_arrival (cursor placed ticks) word)) result }
 {
-    if placed {
-        let arrivals = Arrivals::From(Tick(ticks));
-        return said_entry(arrivals.next(word));
-    }
-    let arrivals = Arrivals::Lost;
-    said_entry(arrivals.next(word))
+    let from = if placed { Some(Tick(ticks)) } else { None };
+    said_entry(Arrivals { from }.next(word))
 }
 
-fn said_written(answer: Written) -> Said
-    ensures { Answers (block (said_written answer)) result }
-{
-    match answer {
-        Written::Block(used) => two(used.bytes as u64, used.taken as u64),
-        Written::No(r) => refused(r),
-    }
-}
-
+// Nor has it one of a limit.
+#[tactic(auto, unfolding(crate::specs::Says::said_of, crate::specs::Says::block))]
 pub fn bog_twcc_write(
     base: u16,
     time: u32,
@@ -315,9 +267,9 @@ pub fn bog_twcc_write(
 ) -> Said
     ensures { WroteTwcc base time feedback list.now (given limited limit) out.old result out.new }
 {
-    if limited {
-        let most = Limit::Bytes(limit as usize);
-        return said_written(twcc_write::write(Seq(base), RefTime(time), feedback, list, most, out));
+    let limit = if limited { Some(limit as usize) } else { None };
+    match twcc_write::write(Seq(base), RefTime(time), feedback, list, limit, out) {
+        Ok(used) => given([used.bytes as u64, used.taken as u64]),
+        Err(r) => refused(r),
     }
-    said_written(twcc_write::write(Seq(base), RefTime(time), feedback, list, Limit::Absent, out))
 }

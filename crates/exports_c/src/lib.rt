@@ -1,4 +1,5 @@
-// The exported calls of include/bogslipper.h: each hands on to the function of that name in `exports`, and promises the same.
+// The exported calls of include/bogslipper.h: each hands on to the function of that name in `exports`, and promises the same. Two crates,
+// since the replay calls the functions from a library and C from an archive, which no crate can use.
 #![tactic(auto)]
 
 ghost use Rattle.utils.specs.Header.{version_of, padding_bit_of, count_of, type_of, length_of};
@@ -130,6 +131,7 @@ pub extern "C" fn bog_arrivals(time: u32) -> Said
     exports::bog_arrivals(time)
 }
 
+// C has no `Option`: here and below a flag stands before a value, as in `exports`.
 #[unsafe(no_mangle)]
 pub extern "C" fn bog_arrivals_next(placed: bool, ticks: i64, word: i32) -> Said
     ensures { Answers (entry (next_arrival (cursor placed ticks) word)) result }

@@ -1,10 +1,9 @@
 -- The fixed examples of docs/RULES.md that are marked P, in its order: one table, settled by one claim about the definitions.
-use Rattle.std.specs.Prelude.{ℕ, ◌≡◌, List, [], ◌∷◌, ◌++◌, map, ℤ, pos, negsuc, replicate}
-use Rattle.std.proofs.Math.Option.{Option, none, some}
+use Rattle.std.specs.Prelude.{ℕ, ◌≡◌, List, [], ◌∷◌, ◌++◌, map, Option, Some, None, ℤ, pos, negsuc, replicate}
 use Rattle.refusal.specs.Outcome.{Outcome, gave, refuse}
 use Rattle.compound.specs.Pass.{first_pass}
 use Rattle.compound.specs.Record.{check_record, own_record}
-use Rattle.compound.specs.Walk.{Step, step, packet, walk_step}
+use Rattle.compound.specs.Walk.{Step, step, walk_step}
 use Rattle.compound.specs.declared.Packet.{Packet}
 use Rattle.nack_store.specs.Bits.{added_all, empty_store}
 use Rattle.nack.specs.Entries.{nack_bytes, read_nack}
@@ -12,6 +11,7 @@ use Rattle.twcc.specs.Words.{not_received, truncated, reserved}
 use Rattle.twcc.specs.Block.{base_of, listed}
 use Rattle.arrival.specs.Arrivals.{ticks_of, at, arrivals}
 use Rattle.arrival.specs.Overlay.{millisecond_bits}
+use Rattle.kinds.specs.declared.Tick.{Tick}
 use Rattle.arrival.specs.declared.Arrival.{Arrival}
 use Rattle.arrival.specs.declared.Arrival.TheVariants.{Missing, Unreadable, Unplaced}
 use Rattle.twcc_plan.specs.Block.{taken_of, block_bytes}
@@ -23,7 +23,7 @@ pub data Row : Type 0 where
   -- a block's bytes; its base and its words
   read_block : List ℕ → ℕ → List ℤ → Row
   -- a reference time and a block's words; their arrivals
-  times : ℕ → List ℤ → List Arrival → Row
+  times : ℕ → List ℤ → List (Arrival Tick) → Row
   -- a tick; the bits of its milliseconds
   milliseconds : ℤ → ℕ → Row
   -- the numbers added to an empty store of 8,192 bytes; the bytes that the store is written as
@@ -54,21 +54,21 @@ settled (sums bytes p verdict) = sums bytes p (check_record bytes p)
 
 unfoldable pub table : List Row
 table =
-    write_block none [] 0 (0x00 ∷ 0x01 ∷ 0x00 ∷ 0x00 ∷ 0x00 ∷ 0x00 ∷ 0x00 ∷ 0x00 ∷ [])
-    ∷ write_block none (replicate 7 not_received) 7
+    write_block None [] 0 (0x00 ∷ 0x01 ∷ 0x00 ∷ 0x00 ∷ 0x00 ∷ 0x00 ∷ 0x00 ∷ 0x00 ∷ [])
+    ∷ write_block None (replicate 7 not_received) 7
     (0x00 ∷ 0x01 ∷ 0x00 ∷ 0x07 ∷ 0x00 ∷ 0x00 ∷ 0x00 ∷ 0x00 ∷ 0xC0 ∷ 0x00 ∷ 0x00 ∷ 0x00 ∷ [])
-    ∷ write_block none (replicate 8 not_received) 8
+    ∷ write_block None (replicate 8 not_received) 8
     (0x00 ∷ 0x01 ∷ 0x00 ∷ 0x08 ∷ 0x00 ∷ 0x00 ∷ 0x00 ∷ 0x00 ∷ 0x00 ∷ 0x08 ∷ 0x00 ∷ 0x00 ∷ [])
-    ∷ write_block none (replicate 8 not_received ++ pos 4 ∷ []) 9
+    ∷ write_block None (replicate 8 not_received ++ pos 4 ∷ []) 9
     (0x00 ∷ 0x01 ∷ 0x00 ∷ 0x09 ∷ 0x00 ∷ 0x00 ∷ 0x00 ∷ 0x00 ∷ 0x80 ∷ 0x20 ∷ 0x04 ∷ 0x00 ∷ [])
-    ∷ write_block none (replicate 8 not_received ++ pos 256 ∷ []) 9
+    ∷ write_block None (replicate 8 not_received ++ pos 256 ∷ []) 9
     (0x00 ∷ 0x01 ∷ 0x00 ∷ 0x09 ∷ 0x00 ∷ 0x00 ∷ 0x00 ∷ 0x00 ∷ 0x00 ∷ 0x08 ∷ 0xE0 ∷ 0x00 ∷ 0x01 ∷ 0x00 ∷ 0x00 ∷ 0x00 ∷ [])
-    ∷ write_block none (pos 255 ∷ []) 1 (0x00 ∷ 0x01 ∷ 0x00 ∷ 0x01 ∷ 0x00 ∷ 0x00 ∷ 0x00 ∷ 0x00 ∷ 0xD0 ∷ 0x00 ∷ 0xFF ∷ 0x00 ∷ [])
-    ∷ write_block (some 12) (replicate 9 (pos 0)) 1
+    ∷ write_block None (pos 255 ∷ []) 1 (0x00 ∷ 0x01 ∷ 0x00 ∷ 0x01 ∷ 0x00 ∷ 0x00 ∷ 0x00 ∷ 0x00 ∷ 0xD0 ∷ 0x00 ∷ 0xFF ∷ 0x00 ∷ [])
+    ∷ write_block (Some 12) (replicate 9 (pos 0)) 1
     (0x00 ∷ 0x01 ∷ 0x00 ∷ 0x01 ∷ 0x00 ∷ 0x00 ∷ 0x00 ∷ 0x00 ∷ 0x20 ∷ 0x01 ∷ 0x00 ∷ 0x00 ∷ [])
-    ∷ write_block (some 8) (replicate 9 (pos 0)) 0 (0x00 ∷ 0x01 ∷ 0x00 ∷ 0x00 ∷ 0x00 ∷ 0x00 ∷ 0x00 ∷ 0x00 ∷ [])
-    ∷ write_block (some 23) (replicate 7 (pos 256)) 0 (0x00 ∷ 0x01 ∷ 0x00 ∷ 0x00 ∷ 0x00 ∷ 0x00 ∷ 0x00 ∷ 0x00 ∷ [])
-    ∷ write_block (some 24) (replicate 7 (pos 256)) 7
+    ∷ write_block (Some 8) (replicate 9 (pos 0)) 0 (0x00 ∷ 0x01 ∷ 0x00 ∷ 0x00 ∷ 0x00 ∷ 0x00 ∷ 0x00 ∷ 0x00 ∷ [])
+    ∷ write_block (Some 23) (replicate 7 (pos 256)) 0 (0x00 ∷ 0x01 ∷ 0x00 ∷ 0x00 ∷ 0x00 ∷ 0x00 ∷ 0x00 ∷ 0x00 ∷ [])
+    ∷ write_block (Some 24) (replicate 7 (pos 256)) 7
     (0x00 ∷ 0x01 ∷ 0x00 ∷ 0x07 ∷ 0x00 ∷ 0x00 ∷ 0x00 ∷ 0x00 ∷ 0xEA ∷ 0xAA
     ∷ 0x01 ∷ 0x00 ∷ 0x01 ∷ 0x00 ∷ 0x01 ∷ 0x00 ∷ 0x01 ∷ 0x00 ∷ 0x01 ∷ 0x00 ∷ 0x01 ∷ 0x00 ∷ 0x01 ∷ 0x00 ∷ [])
     ∷ read_block (0x00 ∷ 0x05 ∷ 0x00 ∷ 0x02 ∷ 0x00 ∷ 0x00 ∷ 0x00 ∷ 0x00 ∷ 0xE4 ∷ 0x00 ∷ 0x7F ∷ []) 5 (truncated ∷ truncated ∷ [])
@@ -87,7 +87,7 @@ table =
     ∷ write_nack (0 ∷ 17 ∷ []) (0x00 ∷ 0x00 ∷ 0x00 ∷ 0x00 ∷ 0x00 ∷ 0x11 ∷ 0x00 ∷ 0x00 ∷ [])
     ∷ read_numbers (0xFF ∷ 0xFF ∷ 0x00 ∷ 0x01 ∷ []) (65535 ∷ 0 ∷ [])
     ∷ pass (0x80 ∷ 0xCB ∷ 0x00 ∷ 0x00 ∷ 0x40 ∷ 0xCB ∷ 0x00 ∷ 0x00 ∷ []) (refuse 2 (1 ∷ []))
-    ∷ walk (0x80 ∷ 0xCB ∷ 0x00 ∷ 0x00 ∷ 0x40 ∷ 0xCB ∷ 0x00 ∷ 0x00 ∷ []) 0 (step (gave (packet (record { start = 0; length = 4; body = 0; padding = 0 }))) 4)
+    ∷ walk (0x80 ∷ 0xCB ∷ 0x00 ∷ 0x00 ∷ 0x40 ∷ 0xCB ∷ 0x00 ∷ 0x00 ∷ []) 0 (step (gave (Some (record { start = 0; length = 4; body = 0; padding = 0 }))) 4)
     ∷ walk (0x80 ∷ 0xCB ∷ 0x00 ∷ 0x00 ∷ 0x40 ∷ 0xCB ∷ 0x00 ∷ 0x00 ∷ []) 4 (step (refuse 2 (1 ∷ [])) 8)
     ∷ pass (0xA0 ∷ 0xCB ∷ 0x00 ∷ 0x00 ∷ 0x40 ∷ 0xCB ∷ 0x00 ∷ 0x00 ∷ []) (refuse 5 [])
     ∷ pass (0xA0 ∷ 0xCB ∷ 0x00 ∷ 0x00 ∷ []) (refuse 5 [])
@@ -95,7 +95,7 @@ table =
     ∷ pass (0xA0 ∷ 0xCB ∷ 0x00 ∷ 0x01 ∷ 0x00 ∷ 0x00 ∷ 0x00 ∷ 0x04 ∷ []) (gave tt)
     ∷ pass (0xA0 ∷ 0xCB ∷ 0x00 ∷ 0x01 ∷ 0x00 ∷ 0x00 ∷ 0x00 ∷ 0x08 ∷ []) (refuse 5 [])
     ∷ walk (0xA0 ∷ 0xCB ∷ 0x00 ∷ 0x01 ∷ 0x00 ∷ 0x00 ∷ 0x00 ∷ 0x02 ∷ []) 0 (step (refuse 5 []) 8)
-    ∷ walk (0xA0 ∷ 0xCB ∷ 0x00 ∷ 0x01 ∷ 0x00 ∷ 0x00 ∷ 0x00 ∷ 0x04 ∷ []) 0 (step (gave (packet (record { start = 0; length = 8; body = 0; padding = 4 }))) 8)
+    ∷ walk (0xA0 ∷ 0xCB ∷ 0x00 ∷ 0x01 ∷ 0x00 ∷ 0x00 ∷ 0x00 ∷ 0x04 ∷ []) 0 (step (gave (Some (record { start = 0; length = 8; body = 0; padding = 4 }))) 8)
     ∷ walk (0xA0 ∷ 0xCB ∷ 0x00 ∷ 0x01 ∷ 0x00 ∷ 0x00 ∷ 0x00 ∷ 0x08 ∷ []) 0 (step (refuse 5 []) 8)
     ∷ walk (0x60 ∷ 0xCB ∷ 0x00 ∷ 0x01 ∷ 0x00 ∷ 0x00 ∷ 0x00 ∷ 0x02 ∷ []) 0 (step (refuse 2 (1 ∷ [])) 8)
     ∷ alone (0xA0 ∷ 0xCB ∷ 0x00 ∷ 0x01 ∷ 0x00 ∷ 0x00 ∷ 0x00 ∷ 0x02 ∷ []) (gave (record { start = 0; length = 8; body = 2; padding = 2 }))

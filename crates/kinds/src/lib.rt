@@ -5,15 +5,15 @@ ghost use Rattle.std.specs.Prelude.{◌≡◌};
 ghost use Rattle.kinds.specs.Seq.{later};
 
 // A packet's sequence number. It moves on modulo 65,536.
-#[derive(Clone, Copy)]
+#[derive(Clone, Copy, Debug, PartialEq, Eq)]
 pub struct Seq(pub u16);
 
 // A reference time: a count of 64 ms.
-#[derive(Clone, Copy)]
+#[derive(Clone, Copy, Debug, PartialEq, Eq)]
 pub struct RefTime(pub u32);
 
 // A point in time: a count of 250 µs.
-#[derive(Clone, Copy)]
+#[derive(Clone, Copy, Debug, PartialEq, Eq, PartialOrd, Ord)]
 pub struct Tick(pub i64);
 
 impl Seq {
@@ -21,7 +21,7 @@ impl Seq {
     pub fn after(self, packets: u16) -> Seq
         ensures { result.0 ≡ later self.0 packets }
     {
-        Seq(std::num::wrapping_add_u16(self.0, packets))
+        Seq(self.0.wrapping_add(packets))
     }
 
     // The next packet's number.

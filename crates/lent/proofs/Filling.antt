@@ -6,23 +6,24 @@ use native.Mathlib.Nat.{zero-add}
 use native.Mathlib.Omega.{arith}
 use borrow.Author.Tests.{lt-ltb, le-ltb, ltb-true, ltb-false}
 use lib.Dec.{ltb}
-use lib.IntN.{ℤ}
 use lib.ListN.{length, take, drop, set, length-take, take-append-drop}
 use lib.Seq.{sets}
 use Rattle.octets.proofs.Logic.{by_test}
-use Rattle.refusal.specs.Outcome.{Outcome, gave, refused}
+use Rattle.std.specs.Prelude.{Ok, Err}
+use Rattle.refusal.specs.Outcome.{Outcome, gave}
+use Rattle.refusal.specs.Number.{no}
+use Rattle.refusal.specs.declared.Refusal.{Refusal}
 use Rattle.lent.specs.Fills.{Fills}
 use Rattle.lent.specs.Room.{in_room, room_for}
 
 -- ---- by its outcome
 
-pub refuses : {R A B : Type 0} {said : R → Outcome B} {outcome : Outcome B} {at : ℕ} {elements old : List A} (r : R) (number : ℕ) (values : List ℤ)
-    → said r ≡ refused number values → outcome ≡ refused number values → Fills said outcome at elements old r old
-refuses r number values says comes = record { answer = says ∙ sym comes; memory = rw comes refl }
+pub refuses : {A B : Type 0} {outcome : Outcome B} {at : ℕ} {elements old : List A} (r : Refusal) → outcome ≡ no r → Fills outcome at elements old (Err r) old
+refuses r comes = record { answer = sym comes; memory = rw comes refl }
 
-pub gives : {R A B : Type 0} {said : R → Outcome B} {outcome : Outcome B} {at : ℕ} {elements old new : List A} (r : R) (b : B)
-    → said r ≡ gave b → outcome ≡ gave b → new ≡ sets old at elements → Fills said outcome at elements old r new
-gives r b says comes stored = record { answer = says ∙ sym comes; memory = rw comes stored }
+pub gives : {A B : Type 0} {outcome : Outcome B} {at : ℕ} {elements old new : List A} (b : B) → outcome ≡ gave b → new ≡ sets old at elements
+    → Fills outcome at elements old (Ok b) new
+gives b comes stored = record { answer = sym comes; memory = rw comes stored }
 
 -- ---- a call on the part from a place on, seen from the whole
 

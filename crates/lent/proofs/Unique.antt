@@ -3,7 +3,10 @@ use Prim.Native.Nat.{ℕ}
 use mathlib.Core.List.{List}
 use mathlib.Core.Path.{◌≡◌, sym, ◌∙◌}
 use denote.Ref.{Bor}
+use Rattle.std.specs.Prelude.{Result}
 use Rattle.refusal.specs.Outcome.{Outcome}
+use Rattle.refusal.specs.declared.Refusal.{Refusal}
+use Rattle.refusal.proofs.Unique.{said_unique}
 use Rattle.lent.specs.Fills.{Fills}
 use Rattle.lent.specs.Store.{Stored}
 use Rattle.lent.specs.Part.{PartOf}
@@ -12,10 +15,10 @@ use Rattle.lent.specs.Part.{PartOf}
 pub store_unique : (old : List ℕ) (at : ℕ) (bytes new other : List ℕ) → Stored old at bytes new → Stored old at bytes other → new ≡ other
 store_unique old at bytes new other a b = a ∙ sym b
 
--- a call that fills memory, whose answers say what they are
-pub fills_unique : {R A B : Type 0} {said : R → Outcome B} {outcome : Outcome B} {at : ℕ} {elements old new other : List A} {r q : R}
-    → ((a b : R) → said a ≡ said b → a ≡ b) → Fills said outcome at elements old r new → Fills said outcome at elements old q other → (r ≡ q) × (new ≡ other)
-fills_unique {r = r} {q = q} same a b = (same r q (a.answer ∙ sym b.answer), a.memory ∙ sym b.memory)
+-- a call that fills memory
+pub fills_unique : {A B : Type 0} {outcome : Outcome B} {at : ℕ} {elements old new other : List A} {r q : Result B Refusal}
+    → Fills outcome at elements old r new → Fills outcome at elements old q other → (r ≡ q) × (new ≡ other)
+fills_unique a b = (said_unique _ _ (a.answer ∙ sym b.answer), a.memory ∙ sym b.memory)
 
 -- two parts that satisfy one promise read the same and stand at the same place
 pub record SamePart (a b : Bor (List ℕ)) : Type 0 where

@@ -1,9 +1,8 @@
 -- The bytes that the stores put.
-use Rattle.std.specs.Prelude.{ℕ, zero, suc, ◌-◌, List, [], ◌∷◌, min}
+use Rattle.std.specs.Prelude.{ℕ, ◌-◌, List, min, replicate}
 
 unfoldable pub zero_bytes : ℕ → List ℕ
-zero_bytes zero = []
-zero_bytes (suc count) = 0 ∷ zero_bytes count
+zero_bytes count = replicate count 0
 
 -- how many of some bytes fit from a place on
 abbrev pub fitting : ℕ → ℕ → ℕ → ℕ

@@ -1,4 +1,3 @@
 pub mod Masks
 pub mod Opens
 pub mod Back
-pub mod Rooms

@@ -8,7 +8,7 @@ use native.Mathlib.Numerals.{add-one}
 use lib.Pow.{pow_pos}
 use lib.Bits.{bit_and, and_step, and_self}
 use lib.Count.{ones, ones_step, count_trailing_zeros}
-use lib.ListN.{length, get_or}
+use lib.ListN.{length}
 use Rattle.nack_store.specs.Bits.{keep}
 use Rattle.nack_store.proofs.Sets.{by_bit}
 use Rattle.nack.specs.Entries.{following, masked, named}
@@ -90,12 +90,16 @@ pub and_less : (mask : ℕ) → mask < 65536 → (mask ≡ 0 → ⊥) → bit_an
 and_less mask small some = omega (arith, and_lowest mask 16 small some, pow_pos (count_trailing_zeros 16 mask))
 
 -- numbers that follow each other, modulo 65,536
-abbrev pub run : ℕ → ℕ → List ℕ
+unfoldable pub run : ℕ → ℕ → List ℕ
 run n zero = []
 run n (suc k) = n % 65536 ∷ run (suc n) k
 
+pub run-none : (n : ℕ) → run n 0 ≡ []
+unfolding run
+run-none n = refl
+
 masked-ones : (n k : ℕ) → masked n (2 ^ k - 1) k ≡ run (suc n) k
-unfolding masked
+unfolding masked run
 masked-ones n zero = refl
 masked-ones n (suc k) =
     let low : (2 ^ suc k - 1) % 2 ≡ 1 = omega (arith, pow-suc 2 k, pow_pos k) in
@@ -107,15 +111,17 @@ pub masked_full : (n : ℕ) → masked n 65535 16 ≡ run (suc n) 16
 masked_full n = masked-ones n 16
 
 pub length_run : (n k : ℕ) → length (run n k) ≡ k
+unfolding run
 length_run n zero = refl
 length_run n (suc k) = ap suc (length_run (suc n) k)
 
-pub get_or-run : (n k j : ℕ) → j < k → get_or (run n k) j 0 ≡ (n + j) % 65536
-get_or-run n zero j more = absurd (omega arith)
-get_or-run n (suc k) zero more = rw add-zero
-get_or-run n (suc k) (suc j) more =
-    let next : n + suc j ≡ suc n + j = omega arith in
-    rw next (get_or-run (suc n) k j (omega arith))
+-- one number more
+pub run-more : (n k : ℕ) → run n (suc k) ≡ run n k ++ ((n + k) % 65536 ∷ [])
+unfolding run
+run-more n zero = rw add-zero
+run-more n (suc k) =
+    let next : n + suc k ≡ suc n + k = omega arith in
+    rw (next, ← run-more (suc n) k)
 
 keep_append : (bit n : ℕ) (l r : List ℕ) → keep bit n (l ++ r) ≡ keep bit n l ++ r
 keep_append zero n l r = refl

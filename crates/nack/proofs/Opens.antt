@@ -8,7 +8,7 @@ use borrow.Author.Tests.{le-leb, lt-leb}
 use lib.ListN.{length}
 use Rattle.nack_store.specs.Bits.{bit_of, members, window, numbers_of}
 use Rattle.nack_store.specs.Sets.{BitsBelow}
-use Rattle.nack_store.proofs.Sets.{left_skip, left-take, left-none, window-out, members_skip, members-take, by_bit, by_le}
+use Rattle.nack_store.proofs.Sets.{left_skip, left-take, left_none, window-out, members_skip, members-take, by_bit, by_le}
 use Rattle.nack_store.proofs.Bytes.{within}
 use Rattle.nack.specs.Entries.{entry, grow, entries_of}
 
@@ -41,7 +41,7 @@ Grown f end n mask at i j =
 grown_none : (f : ℕ → ℕ) (end n mask at i j : ℕ) → BitsBelow f end → at ≤ n + 17 → end ≤ at → Grown f end n mask at i j
 grown_none f end n mask at i j set near past =
     let past' : end ≤ n + 17 = omega arith in
-    rw (window-out f at j end set past, left-none f at end past, left-none f (n + 17) end past', mul-zero, add-zero)
+    rw (window-out f at j end set past, left_none f at end past, left_none f (n + 17) end past', mul-zero, add-zero)
 
 grown_skip : (f : ℕ → ℕ) (end n mask at i j : ℕ) → f at ≡ 0 → Grown f end n mask (suc at) (suc i) j → Grown f end n mask at i (suc j)
 unfolding window

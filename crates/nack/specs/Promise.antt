@@ -7,5 +7,5 @@ abbrev pub capped : ℕ → ℕ
 capped n = min n 18446744073709551615
 
 -- so many numbers or bytes into so much room
-unfoldable pub into_room : ℕ → ℕ → Outcome ℕ
+abbrev pub into_room : ℕ → ℕ → Outcome ℕ
 into_room needed present = cond (ltb present needed) (refuse 15 (capped needed ∷ present ∷ [])) (gave needed)

@@ -1,157 +1,124 @@
 -- Reading: entries one by one, counted and listed.
 use Prim.Native.Nat.{ℕ, suc, ◌+◌, ◌*◌, ◌-◌, ◌/◌, ◌%◌, ◌<◌, ◌≤◌}
 use mathlib.Core.Path.{◌≡◌, refl, sym, ap, ◌∙◌}
-use mathlib.Core.List.{List, [], ◌∷◌, ◌++◌}
+use mathlib.Core.List.{List, [], ◌∷◌, ◌++◌, append-nil}
 use native.Mathlib.Omega.{arith}
-use native.Mathlib.Nat.{zero-add}
-use native.Mathlib.Numerals.{add-one, add-two, add-three, add-four}
 use lib.Bits.{bit_and}
 use lib.Count.{ones, count_trailing_zeros}
-use lib.ListN.{length, get_or, drop, set, length-drop, length-set, length-append}
-use lib.Seq.{sets, length-sets, drop-cons}
+use native.Mathlib.Nat.{add-zero, zero-add}
+use native.Mathlib.Numerals.{add-one}
+use lib.ListN.{length, get_or, take, drop, set, length-append, length-drop, drop_of_length-le}
+use lib.Seq.{sets, take_all}
+use borrow.Rule.Slice.PartMut.{put_mid}
+use Rattle.std.specs.Simd.{first_chunks}
+use Rattle.std.proofs.lemmas.List.{take_more}
+use Rattle.std.proofs.lemmas.List.Concat.{flat_map-append}
+use Rattle.std.proofs.lemmas.List.Folds.{length-flat_map-take}
 use Rattle.octets.specs.Big.{be}
 use Rattle.lent.proofs.Laws.{sets_append}
+use Rattle.lent.proofs.Filling.{sets_part}
 use Rattle.nack.specs.Entries.{masked, named, all_named, entries_in, read_nack}
 use Rattle.nack.specs.Promise.{capped}
-use Rattle.nack.proofs.Masks.{length-named, named-few, masked-none, masked-first, masked_full, length_run, and_less}
+use Rattle.nack.proofs.Masks.{length-named, named-few, masked-none, masked-first, masked_full, and_less, run, length_run, run-none, run-more}
+use Rattle.nack_read.specs.Named.{entry_named, named_by}
 
--- what the entry at a place names
-abbrev pub named_at : List ℕ → ℕ → List ℕ
-named_at bytes at = named (be 2 bytes at) (be 2 bytes (at + 2))
-
-drop-four : (l : List ℕ) (i : ℕ) → i + 4 ≤ length l → drop i l ≡ get_or l i 0 ∷ get_or l (i + 1) 0 ∷ get_or l (i + 2) 0 ∷ get_or l (i + 3) 0 ∷ drop (i + 4) l
-drop-four l i more =
-    rw (add-one, add-two, add-three, add-four, drop-cons l i 0 (omega arith), drop-cons l (suc i) 0 (omega arith), drop-cons l (suc (suc i)) 0 (omega arith), drop-cons l (suc (suc (suc i))) 0 (omega arith))
-
-read-four : (bytes : List ℕ) (at : ℕ) → at + 4 ≤ length bytes → read_nack (drop at bytes) ≡ named_at bytes at ++ read_nack (drop (at + 4) bytes)
+-- the numbers that bytes name are those of their entries
+pub entries_named : (bytes : List ℕ) → named_by (first_chunks 4 (length bytes / 4) bytes) ≡ read_nack bytes
 unfolding read_nack entries_in all_named
-read-four bytes at more =
-    let last : at + 2 + 1 ≡ at + 3 = omega arith in
-    rw (last, drop-four bytes at more)
-
-short : (l : List ℕ) → length l < 4 → read_nack l ≡ []
-unfolding read_nack entries_in all_named
-short [] few = refl
-short (a ∷ []) few = refl
-short (a ∷ b ∷ []) few = refl
-short (a ∷ b ∷ c ∷ []) few = refl
-short (a ∷ b ∷ c ∷ d ∷ l) few = absurd (omega arith)
-
-read-over : (bytes : List ℕ) (at : ℕ) → length bytes - at < 4 → read_nack (drop at bytes) ≡ []
-read-over bytes at few = short (drop at bytes) (simp length-drop few)
+entries_named [] = refl
+entries_named (a ∷ []) = refl
+entries_named (a ∷ b ∷ []) = refl
+entries_named (a ∷ b ∷ c ∷ []) = refl
+entries_named (a ∷ b ∷ c ∷ d ∷ rest) =
+    let one_more : length (a ∷ b ∷ c ∷ d ∷ rest) / 4 ≡ suc (length rest / 4) = omega arith in
+    rw (one_more, entries_named rest)
 
 -- an entry names at most seventeen
-pub read-few : (bytes : List ℕ) → length (read_nack bytes) ≤ 17 * (length bytes / 4)
-unfolding read_nack entries_in all_named
-read-few [] = omega arith
-read-few (a ∷ []) = omega arith
-read-few (a ∷ b ∷ []) = omega arith
-read-few (a ∷ b ∷ c ∷ []) = omega arith
-read-few (a ∷ b ∷ c ∷ d ∷ rest) =
-    simp length-append (omega (arith, named-few (256 * a + b) (256 * c + d), read-few rest))
+pub named_by_few : (es : List (List ℕ)) → length (named_by es) ≤ 17 * length es
+named_by_few [] = omega arith
+named_by_few (e ∷ es) = simp length-append (omega (arith, named-few (be 2 e 0) (be 2 e 2), named_by_few es))
 
-pub read_fits : (bytes list : List ℕ) → length bytes / 4 ≤ length list / 17 → length (read_nack bytes) ≤ length list
-read_fits bytes list roomy = omega (arith, read-few bytes)
+-- one entry more
+pub named_more : (es : List (List ℕ)) (i : ℕ) → i < length es → named_by (take (i + 1) es) ≡ named_by (take i es) ++ entry_named (get_or es i [])
+named_more es i more =
+    ap named_by (take_more es i [] more) ∙ flat_map-append entry_named (take i es) (get_or es i [] ∷ []) ∙ ap (λ (l : List ℕ). named_by (take i es) ++ l) (append-nil _)
 
--- counting: those counted and those to come, as far as 64 bits go
-pub record Tally (bytes : List ℕ) (listed at : ℕ) : Type 0 where
-  pub within : at ≤ length bytes
-  pub top : listed ≤ 18446744073709551615
-  pub sum : capped (listed + length (read_nack (drop at bytes))) ≡ capped (length (read_nack bytes))
+-- counting one entry more
+pub counted_more : (es : List (List ℕ)) (i listed mask : ℕ) → i < length es → mask ≡ be 2 (get_or es i []) 2 → mask < 65536 → listed ≡ capped (length (named_by (take i es)))
+    → capped (listed + (1 + ones mask)) ≡ capped (length (named_by (take (i + 1) es)))
+counted_more es i listed mask more read small all =
+    let this = length-named (be 2 (get_or es i []) 0) mask small in
+    rw (named_more es i more, ← read) (omega (arith, length-append {A = ℕ}))
 
-pub tally_start : (bytes : List ℕ) → Tally bytes 0 0
-tally_start bytes = record { within = omega arith; top = omega arith; sum = rw zero-add }
+-- the numbers that an entry with a full mask names, stored one by one
+pub full_none : (list : List ℕ) (n : ℕ) → sets list 0 (run n 0) ≡ list
+full_none list n = rw run-none
 
-pub tally_turn : {bytes : List ℕ} {listed at : ℕ} (mask count sum : ℕ) → at + 4 ≤ length bytes → mask ≡ be 2 bytes (at + 2) → mask < 65536 → count ≡ 1 + ones mask
-    → sum ≡ capped (listed + count) → Tally bytes listed at → Tally bytes sum (at + 4)
-tally_turn {bytes} {listed} {at} mask count sum more read small counted added t =
-    let rest = ap length (read-four bytes at more) in
-    let both = length-append (named_at bytes at) (read_nack (drop (at + 4) bytes)) in
-    let this : length (named_at bytes at) ≡ count = ap (λ (m : ℕ). length (named (be 2 bytes at) m)) (sym read) ∙ length-named (be 2 bytes at) mask small ∙ sym counted in
-    record { within = more; top = omega arith; sum = omega (arith, t.sum, rest, both, this) }
+pub full_more : (list : List ℕ) (n j : ℕ) → set (sets list 0 (run n j)) j ((n + j) % 65536) ≡ sets list 0 (run n (j + 1))
+full_more list n j =
+    let place : 0 + length (run n j) ≡ j = zero-add _ ∙ length_run n j in
+    rw (add-one, run-more)
+    (ap (λ (k : ℕ). set (sets list 0 (run n j)) k ((n + j) % 65536)) (sym place) ∙ sets_append list 0 (run n j) ((n + j) % 65536 ∷ []))
 
-pub tally_over : {bytes : List ℕ} {listed at : ℕ} → length bytes - at < 4 → Tally bytes listed at → listed ≡ capped (length (read_nack bytes))
-tally_over {bytes} {listed} {at} few t = omega (arith, t.sum, t.top, ap length (read-over bytes at few))
+pub named_full : (n : ℕ) → n < 65536 → named n 65535 ≡ run n 17
+unfolding run
+named_full n small =
+    let own : n % 65536 ≡ n = omega arith in
+    rw (own, masked_full)
 
--- a full mask: its sixteen numbers fit, and with the entry's own they are what it names
-module _ (list : List ℕ) (place n mask : ℕ) (full : mask ≡ 65535) where
-  full_length : length (named n mask) ≡ 17
-  full_length = rw (full, masked_full n) (ap suc (length_run (suc n) 16))
-
-  pub full_room : place + length (named n mask) ≤ length list → place + 17 ≤ length list
-  full_room fits = omega (arith, full_length)
-
-  pub full_listed : (new : List ℕ) → new ≡ sets (set list place n) (place + 1) (masked n 65535 16)
-      → (place + 1 + 16 ≡ place + length (named n mask)) × (new ≡ sets list place (named n mask))
-  full_listed new stored = (omega (arith, full_length), stored ∙ rw (add-one, full))
+pub ruleset full_steps = (full_none, full_more, named_full)
 
 -- listing a mask: what is left of it, stored from here, makes the whole
-pub record Naming (list₀ : List ℕ) (place n mask : ℕ) (list : List ℕ) (next left : ℕ) : Type 0 where
+pub record Naming (first : List ℕ) (place n mask : ℕ) (list : List ℕ) (next left : ℕ) : Type 0 where
   pub low : left < 65536
-  pub numbers : sets list next (masked n left 16) ≡ sets list₀ (place + 1) (masked n mask 16)
-  pub same : length list ≡ length list₀
-  pub end : next + length (masked n left 16) ≡ place + 1 + length (masked n mask 16)
-  pub room : place + 1 + length (masked n mask 16) ≤ length list₀
+  pub numbers : sets list next (masked n left 16) ≡ sets first (suc place) (masked n mask 16)
+  pub end : next + length (masked n left 16) ≡ place + length (named n mask)
 
-pub naming_start : (list : List ℕ) (place n mask : ℕ) → mask < 65536 → place + length (named n mask) ≤ length list → Naming (set list place n) place n mask (set list place n) (place + 1) mask
-naming_start list place n mask small fits = record { low = small; numbers = refl; same = refl; end = refl; room = simp length-set (omega arith) }
+-- the lowest bit of what is left names the next number, and goes
+module _ {first list : List ℕ} {place n mask next left : ℕ} (some : left ≡ 0 → ⊥) (i : Naming first place n mask list next left) where
+  pub naming_room : next < place + length (named n mask)
+  naming_room = omega (arith, ap length (masked-first n left i.low some), i.end)
 
-pub naming_room : {list₀ list : List ℕ} {place n mask next left : ℕ} → (left ≡ 0 → ⊥) → Naming list₀ place n mask list next left → next < length list
-naming_room {list₀} {list} {place} {n} {mask} {next} {left} some i =
-    omega (arith, ap length (masked-first n left i.low some), i.end, i.same, i.room)
+  pub naming_turn : (number : ℕ) → number ≡ (n + (count_trailing_zeros 16 left + 1)) % 65536 → Naming first place n mask (set list next number) (next + 1) (bit_and left (left - 1))
+  naming_turn number is =
+      let front = masked-first n left i.low some in
+      rw is
+      (record {
+        low = omega (arith, and_less left i.low some, i.low);
+        numbers = rw (add-one next) (rw front at i.numbers);
+        end = omega (arith, ap length front, i.end);
+      })
 
-pub naming_turn : {list₀ list : List ℕ} {place n mask next left : ℕ} (number : ℕ) → (left ≡ 0 → ⊥) → number ≡ (n + (count_trailing_zeros 16 left + 1)) % 65536
-    → Naming list₀ place n mask list next left → Naming list₀ place n mask (set list next number) (next + 1) (bit_and left (left - 1))
-naming_turn {list₀} {list} {place} {n} {mask} {next} {left} number some first i =
-    let front = masked-first n left i.low some in
-    rw first
-    (record {
-      low = omega (arith, and_less left i.low some, i.low);
-      numbers = rw (add-one next) (rw front at i.numbers);
-      same = simp length-set i.same;
-      end = omega (arith, ap length front, i.end);
-      room = i.room;
-    })
-
-pub naming_over : {list₀ list : List ℕ} {place n mask next left : ℕ} → left ≡ 0 → Naming list₀ place n mask list next left
-    → (next ≡ place + length (named n mask)) × (list ≡ sets list₀ (place + 1) (masked n mask 16))
-naming_over {list₀} {list} {place} {n} {mask} {next} {left} over i =
+pub naming_over : {first list : List ℕ} {place n mask next left : ℕ} → left ≡ 0 → Naming first place n mask list next left
+    → (next ≡ place + length (named n mask)) × (list ≡ sets first (suc place) (masked n mask 16))
+naming_over {first} {list} {place} {n} {mask} {next} {left} over i =
     let none : masked n left 16 ≡ [] = rw over (masked-none n 16) in
     (omega (arith, ap length none, i.end), rw none at i.numbers)
 
--- listing entries: what the bytes to come name, stored from here, makes the whole
-pub record Listing (bytes list₀ list : List ℕ) (place at : ℕ) : Type 0 where
-  pub within : at ≤ length bytes
-  pub numbers : sets list place (read_nack (drop at bytes)) ≡ sets list₀ 0 (read_nack bytes)
-  pub same : length list ≡ length list₀
-  pub end : place + length (read_nack (drop at bytes)) ≡ length (read_nack bytes)
-  pub room : length (read_nack bytes) ≤ length list₀
+-- an entry with a full mask names seventeen
+pub full_length : (n mask : ℕ) → mask ≡ 65535 → length (named n mask) ≡ 17
+full_length n mask full = rw (full, masked_full) (ap suc (length_run (suc n) 16))
 
-pub listing_start : (bytes list : List ℕ) → length (read_nack bytes) ≤ length list → Listing bytes list list 0 0
-listing_start bytes list fits = record { within = omega arith; numbers = refl; same = refl; end = zero-add _; room = fits }
+-- which are stored in the part from its place on
+pub full_stored : (list part : List ℕ) (place n mask : ℕ) → mask ≡ 65535 → place ≤ length list → part ≡ sets (take (length list - place) (drop place list)) 0 (named n 65535)
+    → put_mid place (length list - place) list part ≡ sets list place (named n mask)
+full_stored list part place n mask full within stored =
+    let all : length (drop place list) ≤ length list - place = simp length-drop (omega arith) in
+    let part_is : part ≡ sets (drop place list) 0 (named n 65535) = rw (take_all _ _ all) at stored in
+    rw (part_is, drop_of_length-le _ all, append-nil, full) (sets_part list (named n 65535) place 0 within ∙ rw add-zero)
 
-module _ {bytes list₀ list : List ℕ} {place at : ℕ} (n mask : ℕ) (more : at + 4 ≤ length bytes) (number : n ≡ be 2 bytes at) (named-too : mask ≡ be 2 bytes (at + 2)) (l : Listing bytes list₀ list place at) where
-  pub listing_room : place + length (named n mask) ≤ length list
-  listing_room =
-      rw (number, named-too)
-      (omega (arith, ap length (read-four bytes at more), length-append (named_at bytes at) (read_nack (drop (at + 4) bytes)), l.end, l.same, l.room))
+-- listing one entry more: there is room for it, and it stands behind the entries before
+pub listed_room : (es : List (List ℕ)) (i room : ℕ) → i < length es → length (named_by es) ≤ room → length (named_by (take i es)) + length (entry_named (get_or es i [])) ≤ room
+listed_room es i room more fits = omega (arith, length-flat_map-take entry_named es i [] more)
 
-  pub listing_turn : (new : List ℕ) (next : ℕ) → next ≡ place + length (named n mask) → new ≡ sets list place (named n mask) → Listing bytes list₀ new next (at + 4)
-  listing_turn new next after stored =
-      let front = read-four bytes at more in
-      let rest = read_nack (drop (at + 4) bytes) in
-      let after : next ≡ place + length (named_at bytes at) = rw (number, named-too) at after in
-      let stored : new ≡ sets list place (named_at bytes at) = rw (number, named-too) at stored in
-      record {
-        within = more;
-        numbers = rw (stored, after) (sets_append list place (named_at bytes at) rest ∙ (rw front at l.numbers));
-        same = ap length stored ∙ length-sets list place (named_at bytes at) ∙ l.same;
-        end = omega (arith, after, ap length front, length-append (named_at bytes at) rest, l.end);
-        room = l.room;
-      }
-
-pub listing_over : {bytes list₀ list : List ℕ} {place at : ℕ} → length bytes - at < 4 → Listing bytes list₀ list place at
-    → (place ≡ length (read_nack bytes)) × (list ≡ sets list₀ 0 (read_nack bytes))
-listing_over {bytes} {list₀} {list} {place} {at} few l =
-    let none = read-over bytes at few in
-    (omega (arith, ap length none, l.end), rw none at l.numbers)
+pub listed_more : (es : List (List ℕ)) (i number mask : ℕ) (old list new : List ℕ) (place next : ℕ) → i < length es → number ≡ be 2 (get_or es i []) 0 → mask ≡ be 2 (get_or es i []) 2
+    → (place ≡ length (named_by (take i es))) × (list ≡ sets old 0 (named_by (take i es)))
+    → (next ≡ place + length (named number mask)) × (new ≡ sets list place (named number mask))
+    → (next ≡ length (named_by (take (i + 1) es))) × (new ≡ sets old 0 (named_by (take (i + 1) es)))
+listed_more es i number mask old list new place next more first second before entry =
+    let front = named_by (take i es) in
+    let all : named_by (take (i + 1) es) ≡ front ++ named number mask = named_more es i more ∙ rw (first, second) in
+    let here : place ≡ 0 + length front = before.0 ∙ sym (zero-add (length front)) in (
+      entry.0 ∙ rw (before.0, all) (sym (length-append front (named number mask))),
+      entry.1 ∙ rw (before.1, here, all) (sets_append old 0 front (named number mask)),
+    )

@@ -1,12 +1,9 @@
 -- A store's bytes and its bits.
-use Prim.Native.Nat.{ℕ, zero, suc, ◌+◌, ◌*◌, ◌-◌, ◌/◌, ◌%◌, ◌^◌, ◌<◌, ◌≤◌}
+use Prim.Native.Nat.{ℕ, zero, suc, ◌+◌, ◌*◌, ◌/◌, ◌%◌, ◌^◌, ◌<◌, ◌≤◌}
 use mathlib.Core.Path.{◌≡◌, ◌∙◌}
 use mathlib.Core.List.{List}
 use native.Mathlib.Omega.{arith}
 use native.Mathlib.Nat.{mod-eq_of_lt, zero-div, pow-succ', pow-zero, div-one, div-div-eq-div-mul, mul_left_comm, mul-one}
-use mir.Val.{Fits}
-use mir.Syntax.{w8}
-use lib.Pow.{shl_exact}
 use lib.ListN.{length, get_or, get_or-eq_default}
 use Rattle.nack_store.specs.Bits.{bit_of, with_bit, window}
 use Rattle.nack_store.specs.Sets.{BitsBelow}
@@ -19,7 +16,7 @@ within s = record {
 }
 
 -- bit i of byte q
-bit_in : (s : List ℕ) (q i : ℕ) → i < 8 → bit_of s (8 * q + i) ≡ get_or s q 0 / 2 ^ i % 2
+pub bit_in : (s : List ℕ) (q i : ℕ) → i < 8 → bit_of s (8 * q + i) ≡ get_or s q 0 / 2 ^ i % 2
 bit_in s q i h =
     let byte : (8 * q + i) / 8 ≡ q = omega arith in
     let place : (8 * q + i) % 8 ≡ i = omega arith in
@@ -48,26 +45,3 @@ with_suc b r bit =
 
 pub with_zero : (b bit : ℕ) → with_bit b 0 bit ≡ b / 2 * 2 + bit
 with_zero b bit = rw (pow-zero, div-one, mul-one, mul-one) (omega arith)
-
-with_lt : (b r bit k : ℕ) → b < 2 ^ k → r < k → bit < 2 → with_bit b r bit < 2 ^ k
-with_lt b r bit zero small place two = absurd (omega arith)
-with_lt b zero bit (suc k) small place two = rw with_zero (omega (arith, pow-succ' 2 k))
-with_lt b (suc r) bit (suc k) small place two =
-    rw with_suc (omega (arith, pow-succ' 2 k, with_lt (b / 2) r bit k (omega (arith, pow-succ' 2 k)) (omega arith) two))
-
-module _ (b r bit : ℕ) (place : r < 8) (two : bit < 2) where
-  -- nothing is shifted out of a byte
-  old_shl : (b / 2 ^ r % 2) * 2 ^ r % 256 ≡ (b / 2 ^ r % 2) * 2 ^ r
-  old_shl = shl_exact 1 r 8 (omega arith) (omega arith)
-
-  new_shl : bit * 2 ^ r % 256 ≡ bit * 2 ^ r
-  new_shl = shl_exact 1 r 8 (omega arith) (omega arith)
-
-  pub shl_below : (b / 2 ^ r % 2) * 2 ^ r % 256 ≤ b
-  shl_below = rw old_shl (digit_le b r)
-
-  pub shl_with : b - (b / 2 ^ r % 2) * 2 ^ r % 256 + bit * 2 ^ r % 256 ≡ with_bit b r bit
-  shl_with = rw (old_shl, new_shl)
-
-  pub shl_fits : Fits w8 b → Fits w8 (b - (b / 2 ^ r % 2) * 2 ^ r % 256 + bit * 2 ^ r % 256)
-  shl_fits small = record { fits = rw shl_with (with_lt b r bit 8 small.fits place two) }

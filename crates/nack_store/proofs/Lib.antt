@@ -2,6 +2,5 @@ pub mod Sets
 pub mod Bytes
 pub mod Store
 pub mod Numbers
-pub mod Sizes
 pub mod Tallying
 pub mod Unique

@@ -37,19 +37,27 @@ left-take f n end below there =
     let left : end - n ≡ suc (end - suc n) = omega arith in
     rw left (members-take f n (end - suc n) there)
 
-pub left-none : (f : ℕ → ℕ) (n end : ℕ) → end ≤ n → members f n (end - n) ≡ []
+pub left_none : (f : ℕ → ℕ) (n end : ℕ) → end ≤ n → members f n (end - n) ≡ []
 unfolding members
-left-none f n end past =
+left_none f n end past =
     let left : end - n ≡ 0 = omega arith in
     rw left
 
 pub left_skip : (f : ℕ → ℕ) (n end : ℕ) → f n ≡ 0 → members f n (end - n) ≡ members f (suc n) (end - suc n)
 left_skip f n end clear =
     by_le end n
-    (λ past. left-none f n end past ∙ sym (left-none f (suc n) end (omega arith)))
+    (λ past. left_none f n end past ∙ sym (left_none f (suc n) end (omega arith)))
     (λ below.
     let left : end - n ≡ suc (end - suc n) = omega arith in
     rw left (members_skip f n (end - suc n) clear))
+
+-- so are several
+pub left_skip_all : (f : ℕ → ℕ) (n k end : ℕ) → ((i : ℕ) → i < k → f (n + i) ≡ 0) → members f n (end - n) ≡ members f (n + k) (end - (n + k))
+left_skip_all f n zero end clear = rw add-zero
+left_skip_all f n (suc k) end clear =
+    let first : f n ≡ 0 = rw add-zero at (clear 0 (omega arith)) in
+    let next : n + suc k ≡ suc n + k = omega arith in
+    rw next (left_skip f n end first ∙ left_skip_all f (suc n) k end (λ i l. rw (suc-add, ← add-suc) (clear (suc i) (omega arith))))
 
 pub window-out : (f : ℕ → ℕ) (n k end : ℕ) → BitsBelow f end → end ≤ n → window f n k ≡ 0
 unfolding window

@@ -1,18 +1,22 @@
 -- Adding and removing replace one bit of a store, and nothing else of it.
-use Prim.Native.Nat.{ℕ, zero, suc, ◌+◌, ◌*◌, ◌/◌, ◌%◌, ◌^◌, ◌<◌, ◌≤◌}
-use mathlib.Core.Path.{◌≡◌, refl, ap, ◌∙◌}
+use Prim.Native.Nat.{ℕ, zero, suc, ◌+◌, ◌*◌, ◌/◌, ◌-◌, ◌%◌, ◌^◌, ◌<◌}
+use mathlib.Core.Path.{◌≡◌, refl, sym, ap, ◌∙◌}
 use mathlib.Core.Logic.{by_cases}
-use mathlib.Core.List.{List, append-nil}
+use mathlib.Core.List.{List, ◌∷◌}
 use native.Mathlib.Omega.{arith}
 use native.Mathlib.Decide.{ℕ_discrete}
 use native.Mathlib.Nat.{pow-zero, div-one}
-use lib.ListN.{length, get_or, length-set, drop_of_length-le}
-use lib.Seq.{sets, sets-eq, get_or-set_same, get_or-set_other}
+use lib.Bits.{bit_and}
+use mir.Syntax.{w8}
+use Rattle.std.specs.Int.Bits.{bit_or}
+use Rattle.std.proofs.lemmas.Nat.{and_le_l}
+use Rattle.std.proofs.lemmas.Nat.Bits.{same_from_bits, same_from_bits_below, bit_at_set_same, bit_at_set_other, bit_at_clear_same, bit_at_clear_other}
+use lib.ListN.{length, get_or, length-set, replicate}
+use lib.Seq.{get_or-set_same, get_or-set_other}
 use Rattle.lent.specs.Bytes.{zero_bytes}
-use Rattle.lent.proofs.Laws.{length-zero_bytes}
-use Rattle.nack_store.specs.Bits.{store_size, with_bit, changed_bit, added, removed, empty_store}
+use Rattle.nack_store.specs.Bits.{with_bit, changed_bit, added, removed}
 use Rattle.nack_store.specs.Sets.{OneBit}
-use Rattle.nack_store.proofs.Bytes.{halve, with_suc, with_zero}
+use Rattle.nack_store.proofs.Bytes.{halve, digit_le, with_suc, with_zero}
 
 with_same : (b r bit : ℕ) → bit < 2 → with_bit b r bit / 2 ^ r % 2 ≡ bit
 with_same b zero bit two = rw (with_zero, pow-zero, div-one) (omega arith)
@@ -29,6 +33,19 @@ with_other b (suc r) bit zero two other = rw (with_suc, pow-zero, div-one, div-o
 with_other b (suc r) bit (suc j) two other =
     let rest : (b % 2 + 2 * with_bit (b / 2) r bit) / 2 ≡ with_bit (b / 2) r bit = omega arith in
     rw (with_suc, halve, rest, halve) (with_other (b / 2) r bit j two (λ e. other (ap suc e)))
+
+-- a bit that is set
+pub set_with : (b r : ℕ) → r < 8 → bit_or b (1 * 2 ^ r % 256) ≡ with_bit b r 1
+set_with b r place = same_from_bits _ _ (λ i. by_cases (ℕ_discrete i r)
+    (λ e. rw e (bit_at_set_same w8 b r place ∙ sym (with_same b r 1 (omega arith))))
+    (λ other. bit_at_set_other w8 b r place i other ∙ sym (with_other b r 1 i (omega arith) other)))
+
+-- a bit that is cleared
+pub clear_with : (b r : ℕ) → b < 256 → r < 8 → bit_and b (255 - 1 * 2 ^ r % 256) ≡ with_bit b r 0
+clear_with b r byte place =
+    same_from_bits_below 8 _ _ (omega (arith, and_le_l b (255 - 1 * 2 ^ r % 256))) (omega (arith, digit_le b r)) (λ i below. by_cases (ℕ_discrete i r)
+    (λ e. rw e (bit_at_clear_same w8 b r place ∙ sym (with_same b r 0 (omega arith))))
+    (λ other. bit_at_clear_other w8 b r place i below other ∙ sym (with_other b r 0 i (omega arith) other)))
 
 changed_one : (s : List ℕ) (n bit : ℕ) → n < 8 * length s → bit < 2 → OneBit s n bit (changed_bit s n bit)
 changed_one s n bit below two =
@@ -53,9 +70,8 @@ added-one s n below = changed_one s n 1 below (omega arith)
 pub removed-one : (s : List ℕ) (n : ℕ) → n < 8 * length s → OneBit s n 0 (removed s n)
 removed-one s n below = changed_one s n 0 below (omega arith)
 
--- zeros over a whole store
-pub zeros_whole : (s : List ℕ) → length s ≡ store_size → sets s 0 (zero_bytes store_size) ≡ empty_store
-zeros_whole s size =
-    let all = length-zero_bytes store_size in
-    let none : length s ≤ 0 + length (zero_bytes store_size) = omega arith in
-    sets-eq (zero_bytes store_size) s 0 (omega arith) ∙ rw (drop_of_length-le s none) (append-nil (zero_bytes store_size))
+-- zeros one after the other
+pub replicate_zero : (n : ℕ) → replicate n 0 ≡ zero_bytes n
+unfolding zero_bytes
+replicate_zero zero = refl
+replicate_zero (suc n) = ap (λ (l : List ℕ). 0 ∷ l) (replicate_zero n)

@@ -1,3 +1,4 @@
 pub mod Scan
-pub mod Writing
+pub mod Giving
+pub mod Putting
 pub mod Unique

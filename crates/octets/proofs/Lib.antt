@@ -1,4 +1,3 @@
 pub mod Logic
 pub mod Big
-pub mod Sign
 pub mod Unique

@@ -1,4 +1,5 @@
-// Bytes and the numbers that they hold, for all crates that read or write them.
+// Bytes and the numbers that they hold, for all crates that read or write them. `wide`, `lesser` and `bits64` are the library's methods
+// under the names that docs/PROOFS.md promises.
 #![tactic(auto)]
 
 ghost use Rattle.std.specs.Prelude.{◌≡◌, ◌+◌, ◌*◌, ◌<◌, min, get_or};
@@ -9,24 +10,27 @@ ghost use Rattle.octets.specs.Signed.{bits64};
 pub fn wide(byte: u8) -> usize
     ensures { (result ≡ byte) × (result < 256) }
 {
-    byte as usize
+    usize::from(byte)
 }
 
 // The byte at a place, 0 past the end.
 pub fn byte_at(bytes: &[u8], at: usize) -> usize
     ensures { (result ≡ get_or bytes.now at 0) × (result < 256) }
 {
-    if at < bytes.len() { wide(bytes[at]) } else { 0 }
+    match bytes.get(at) {
+        Some(&byte) => wide(byte),
+        None => 0,
+    }
 }
 
 // Two bytes as a number, the high one first.
 pub fn joined(high: u8, low: u8) -> usize
     ensures { (result ≡ 256 * high + low) × (result < 65536) }
 {
-    256 * wide(high) + wide(low)
+    usize::from(u16::from_be_bytes([high, low]))
 }
 
-// The 16-bit number at a place, the high byte first; bytes past the end count as 0.
+// The 16-bit number at a place, the high byte first. Bytes past the end count as 0, so that there may be no two for `from_be_bytes`.
 pub fn be16_at(bytes: &[u8], at: usize) -> usize
     ensures { (result ≡ be 2 bytes.now at) × (result < 65536) }
 {
@@ -41,17 +45,12 @@ pub fn be16_at(bytes: &[u8], at: usize) -> usize
 pub fn lesser(a: usize, b: usize) -> usize
     ensures { result ≡ min a b }
 {
-    if a < b { a } else { b }
+    a.min(b)
 }
 
 // A signed number in two's complement.
 pub fn bits64(number: i64) -> u64
     ensures { result ≡ bits64 number }
 {
-    if number < 0 {
-        let k = (-1 - number) as u64;
-        18446744073709551615 - k
-    } else {
-        number as u64
-    }
+    number.cast_unsigned()
 }

@@ -7,12 +7,9 @@ use lib.Dec.{eqb}
 use lib.IntN.{ℤ, nat_abs, pos}
 use lib.ListN.{get_or}
 use Rattle.refusal.specs.Number.{number_of, values_of, no}
-use Rattle.refusal.specs.Said.{said_checked, said_number}
+use Rattle.std.specs.Prelude.{Result, Ok, Err}
+use Rattle.refusal.specs.Said.{said}
 use Rattle.refusal.specs.Told.{Tells}
-use Rattle.refusal.specs.declared.Checked.{Checked}
-use Rattle.refusal.specs.declared.Checked.TheVariants as checked
-use Rattle.refusal.specs.declared.Number.{Number}
-use Rattle.refusal.specs.declared.Number.TheVariants as number
 use Rattle.refusal.specs.declared.Refusal.{Refusal}
 use Rattle.refusal.specs.declared.Told.{Told}
 use Rattle.refusal.specs.declared.Refusal.TheVariants.{Truncated, UnsupportedVersion, PacketTypeMismatch, TooLarge, InvalidPadding, CountOutOfRange, UnevenPadding, ReferenceTimeTooLarge, BodyLength, StatusOutOfRange, ListTooLong, LimitTooSmall, OutputTooSmall, StoreLength, LeastLength}
@@ -63,17 +60,11 @@ refusal_unique a b numbers values = sym (refusal_back a) ∙ (cc) ∙ refusal_ba
 pub no_unique : {A : Type 0} → (a b : Refusal) → no {A = A} a ≡ no {A = A} b → a ≡ b
 no_unique a b same = refusal_unique a b (cc) (cc)
 
-pub checked_unique : (a b : Checked) → said_checked a ≡ said_checked b → a ≡ b
-checked_unique checked.Fine checked.Fine same = refl
-checked_unique checked.Fine (checked.No r) same = cc
-checked_unique (checked.No r) checked.Fine same = cc
-checked_unique (checked.No r) (checked.No q) same = ap checked.No (no_unique r q same)
-
-pub number_unique : (a b : Number) → said_number a ≡ said_number b → a ≡ b
-number_unique (number.Is m) (number.Is n) same = cc
-number_unique (number.Is m) (number.No r) same = cc
-number_unique (number.No r) (number.Is n) same = cc
-number_unique (number.No r) (number.No q) same = ap number.No (no_unique r q same)
+pub said_unique : {A : Type 0} → (a b : Result A Refusal) → said a ≡ said b → a ≡ b
+said_unique (Ok a) (Ok b) same = cc
+said_unique (Ok a) (Err r) same = cc
+said_unique (Err r) (Ok a) same = cc
+said_unique (Err r) (Err q) same = ap Err (no_unique r q same)
 
 -- what is told of a refusal is one struct
 pub tells_unique : (r : Refusal) (a b : Told) → Tells r a → Tells r b → a ≡ b

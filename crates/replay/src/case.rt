@@ -1,116 +1,118 @@
 // A case's bytes: its parts in their order, each behind its own opening, as the head of a recording lists them. A part that is not
 // there is empty.
-use crate::bytes::{behind, byte_at, long_at, part, short_at, wide_at};
+use crate::number;
+use exports::Said;
+use std::array;
 
 // What the openings call the parts.
-const NUMBERS: u32 = 1;
-
-const READ: u32 = 2;
-
-const BYTES: u32 = 4;
-
-const SHORTS: u32 = 5;
-
-const WORDS: u32 = 6;
-
-const OUTCOME: u32 = 9;
-
-// A part: the width of its elements, the place of the first, and the length of them all in bytes.
-#[derive(Clone, Copy)]
-pub struct Part {
-    pub width: u32,
-    pub from: usize,
-    pub length: usize,
+#[derive(Clone, Copy, Debug, PartialEq, Eq)]
+enum Kind {
+    Numbers = 1,
+    Read = 2,
+    Bytes = 4,
+    Shorts = 5,
+    Words = 6,
+    Outcome = 9,
 }
 
-#[derive(Clone, Copy)]
-pub struct Case {
-    pub numbers: Part,
-    pub read: Part,
-    pub bytes: Part,
-    pub shorts: Part,
-    pub words: Part,
-    pub outcome: Part,
+// A part: the width of its elements, and the bytes of them all.
+#[derive(Clone, Copy, Debug, PartialEq, Eq)]
+struct Part<'a> {
+    width: u8,
+    bytes: &'a [u8],
 }
 
-// The part at a place, if the opening there calls it so.
-fn part_at(case: &[u8], at: usize, called: u32) -> Part {
-    let opening = long_at(case, at);
-    let kind = opening / 16777216;
-    if kind / 16 != called {
-        return Part {
-            width: 1,
-            from: at,
-            length: 0,
+impl Part<'_> {
+    // The number at a place; zeros stand behind the last.
+    fn number(self, place: usize) -> u64 {
+        let width = match self.width {
+            1 => 1,
+            2 => 2,
+            4 => 4,
+            _ => 8,
         };
-    }
-    Part {
-        width: kind % 16,
-        from: behind(at, 4),
-        length: (opening % 16777216) as usize,
+        number::nth(self.bytes, width, place)
     }
 }
 
-// The place behind a part.
-pub fn past(of: Part) -> usize {
-    behind(of.from, of.length)
+// The bytes of lent memory, before the call and after it.
+#[derive(Clone, Copy, Debug, PartialEq, Eq)]
+pub struct Lent<'a> {
+    pub before: &'a [u8],
+    pub after: &'a [u8],
 }
 
-// The place behind a part of lent memory, which stands there twice: before the call and after it.
-fn past_both(of: Part) -> usize {
-    behind(past(of), of.length)
+// What a call is given and lent, and the outcome that it has to have.
+#[derive(Clone, Copy)]
+pub struct Case<'a> {
+    pub numbers: [u64; 5],
+    pub read: &'a [u8],
+    pub bytes: Lent<'a>,
+    pub shorts: Lent<'a>,
+    pub words: Lent<'a>,
+    pub outcome: Said,
 }
 
-pub fn parts_of(case: &[u8]) -> Case {
-    let numbers = part_at(case, 0, NUMBERS);
-    let read = part_at(case, past(numbers), READ);
-    let bytes = part_at(case, past(read), BYTES);
-    let shorts = part_at(case, past_both(bytes), SHORTS);
-    let words = part_at(case, past_both(shorts), WORDS);
-    let outcome = part_at(case, past_both(words), OUTCOME);
-    Case {
-        numbers: numbers,
-        read: read,
-        bytes: bytes,
-        shorts: shorts,
-        words: words,
-        outcome: outcome,
+// The bytes of a case from a place on.
+#[derive(Clone, Copy, Debug, PartialEq, Eq)]
+struct Rest<'a>(&'a [u8]);
+
+impl<'a> Rest<'a> {
+    // Takes so many bytes, if there are that many.
+    fn take(&mut self, length: usize) -> Option<&'a [u8]> {
+        let (front, rest) = self.0.split_at_checked(length)?;
+        self.0 = rest;
+        Some(front)
+    }
+
+    // Takes a part, if the opening in front calls it so.
+    fn part(&mut self, kind: Kind) -> Option<Part<'a>> {
+        match *self.0 {
+            [opening, high, middle, low, ..] if opening >> 4 == kind as u8 => {
+                self.take(4)?;
+                let length = u32::from_be_bytes([0, high, middle, low]);
+                let width = opening % 16;
+                let bytes = self.take(length as usize)?;
+                Some(Part { width, bytes })
+            }
+            _ => Some(Part {
+                width: 1,
+                bytes: &[],
+            }),
+        }
+    }
+
+    // Takes a part of lent memory, which stands there twice.
+    fn lent(&mut self, kind: Kind) -> Option<Lent<'a>> {
+        let before = self.part(kind)?.bytes;
+        let after = self.take(before.len())?;
+        Some(Lent { before, after })
     }
 }
 
-// The bytes of a part: of lent memory, those before the call.
-pub fn before(case: &[u8], of: Part) -> &[u8] {
-    part(case, of.from, past(of))
-}
-
-// Those after the call.
-pub fn after(case: &[u8], of: Part) -> &[u8] {
-    part(case, past(of), past_both(of))
-}
-
-fn number(s: &[u8], width: u32, place: u8) -> u64 {
-    let i = place as usize;
-    match width {
-        1 => byte_at(s, i) as u64,
-        2 => short_at(s, 2 * i) as u64,
-        4 => long_at(s, 4 * i) as u64,
-        _ => wide_at(s, 8 * i),
+impl<'a> Case<'a> {
+    // The case that bytes are. It ends with its outcome.
+    pub fn of(bytes: &'a [u8]) -> Option<Case<'a>> {
+        let mut rest = Rest(bytes);
+        let numbers = rest.part(Kind::Numbers)?;
+        let read = rest.part(Kind::Read)?.bytes;
+        let bytes = rest.lent(Kind::Bytes)?;
+        let shorts = rest.lent(Kind::Shorts)?;
+        let words = rest.lent(Kind::Words)?;
+        let outcome = rest.part(Kind::Outcome)?;
+        if outcome.bytes.is_empty() || !rest.0.is_empty() {
+            return None;
+        }
+        Some(Case {
+            numbers: array::from_fn(|place| numbers.number(place)),
+            read,
+            bytes,
+            shorts,
+            words,
+            outcome: Said {
+                number: outcome.number(0),
+                values: array::from_fn(|place| outcome.number(place.saturating_add(1))),
+            },
+        })
     }
-}
-
-// The numbers of a part, nine at most: an outcome has its number and eight values. Behind them stand zeros.
-pub fn numbers_of(case: &[u8], of: Part) -> [u64; 9] {
-    let s = before(case, of);
-    let w = of.width;
-    [
-        number(s, w, 0),
-        number(s, w, 1),
-        number(s, w, 2),
-        number(s, w, 3),
-        number(s, w, 4),
-        number(s, w, 5),
-        number(s, w, 6),
-        number(s, w, 7),
-        number(s, w, 8),
-    ]
 }

@@ -1,8 +1,8 @@
 // What is counted: of the call at hand, and of all.
-use crate::judge::{AGREES, UNREADABLE};
+use crate::judge::{Judged, Verdict};
 
 // Cases, those that disagree; lines that are wrong on purpose, those that were found out.
-#[derive(Clone, Copy)]
+#[derive(Clone, Copy, Debug, Default, PartialEq, Eq)]
 pub struct Counts {
     pub cases: u64,
     pub disagreements: u64,
@@ -10,72 +10,46 @@ pub struct Counts {
     pub found: u64,
 }
 
-// The place of the name of the call at hand, its counts, and those of all.
-#[derive(Clone, Copy)]
-pub struct Book {
-    pub named: usize,
+impl Counts {
+    // Enters a line. One that can't be read is a case that disagrees, whatever its mark.
+    fn enter(&mut self, judged: Judged) {
+        let differs = u64::from(judged.verdict != Verdict::Agrees);
+        if judged.is_case() || !judged.is_read() {
+            self.cases = self.cases.saturating_add(1);
+            self.disagreements = self.disagreements.saturating_add(differs);
+        } else {
+            self.wrong = self.wrong.saturating_add(1);
+            self.found = self.found.saturating_add(differs);
+        }
+    }
+}
+
+// The name of the call at hand, its counts, and those of all.
+#[derive(Clone, Copy, Debug, PartialEq, Eq)]
+pub struct Book<'a> {
+    pub name: &'a [u8],
     pub chapter: Counts,
     pub total: Counts,
 }
 
-fn nothing() -> Counts {
-    Counts {
-        cases: 0,
-        disagreements: 0,
-        wrong: 0,
-        found: 0,
-    }
-}
-
-pub fn empty() -> Book {
-    Book {
-        named: 0,
-        chapter: nothing(),
-        total: nothing(),
-    }
-}
-
-// One more if it is so.
-fn more(n: u64, so: bool) -> u64 {
-    if so {
-        return std::num::wrapping_add_u64(n, 1);
-    }
-    n
-}
-
-impl Counts {
-    // A line that can't be read is a case that disagrees, whatever its mark.
-    fn entered(self, mark: u8, verdict: u8) -> Counts {
-        let fair = (mark == AGREES) | (verdict == UNREADABLE);
-        let differs = verdict != AGREES;
-        Counts {
-            cases: more(self.cases, fair),
-            disagreements: more(self.disagreements, fair & differs),
-            wrong: more(self.wrong, !fair),
-            found: more(self.found, !fair & differs),
-        }
-    }
-}
-
-impl Book {
-    // Turns to the chapter of the call whose name stands at a place.
-    pub fn turned(self, at: usize) -> Book {
-        let total = self.total;
+impl<'a> Book<'a> {
+    pub fn new(name: &'a [u8]) -> Book<'a> {
         Book {
-            named: at,
-            chapter: nothing(),
-            total: total,
+            name,
+            chapter: Counts::default(),
+            total: Counts::default(),
         }
+    }
+
+    // Turns to the chapter of a call.
+    pub fn turn(&mut self, name: &'a [u8]) {
+        self.name = name;
+        self.chapter = Counts::default();
     }
 
     // Enters a line.
-    pub fn entered(self, mark: u8, verdict: u8) -> Book {
-        let chapter = self.chapter;
-        let total = self.total;
-        Book {
-            named: self.named,
-            chapter: chapter.entered(mark, verdict),
-            total: total.entered(mark, verdict),
-        }
+    pub fn enter(&mut self, judged: Judged) {
+        self.chapter.enter(judged);
+        self.total.enter(judged);
     }
 }

@@ -1,119 +1,122 @@
-// The verdict on a line: what our code does otherwise than the line says, in the letters of the marks.
-use crate::bytes::part;
-use crate::case::{Case, after, before, numbers_of, parts_of, past};
-use crate::hex::unpack;
-use crate::{call, memory, room};
+// The verdict on a line: what our code does otherwise than the line says.
+use crate::case::Case;
+use crate::memory::Memory;
+use crate::{call, hex, memory, room};
 use exports::Said;
+use std::fmt;
 
-// It does what the line says.
-pub const AGREES: u8 = b'=';
+// More than the bytes of a case.
+const CASE: usize = 655360;
 
-// It says another number, or another value.
-pub const NUMBER: u8 = b'n';
+// What a case lends: it holds that twice, before the call and after it, so that half as many bytes are always enough.
+const BYTES: usize = 327680;
 
-pub const VALUE: u8 = b'v';
+const SHORTS: usize = 163840;
 
-// It leaves other memory.
-pub const MEMORY: u8 = b'm';
+const WORDS: usize = 81920;
 
-// The line can't be read, which no mark says.
-pub const UNREADABLE: u8 = b'?';
+// Our code does what the line says; it says another number, or another value; it leaves other memory; or the line can't be read.
+#[derive(Clone, Copy, Debug, PartialEq, Eq)]
+pub enum Verdict {
+    Agrees,
+    Number,
+    Value,
+    Memory,
+    Unreadable,
+}
 
-// Whether these are the values behind the number of an outcome.
-fn has_values(outcome: [u64; 9], values: [u64; 8]) -> bool {
-    let mut i = 0;
-    while i < 8 {
-        if values[i] != outcome[i + 1] {
-            return false;
+// The letters of the marks, and the one for what no mark says: that a line can't be read.
+impl From<Verdict> for u8 {
+    fn from(verdict: Verdict) -> u8 {
+        match verdict {
+            Verdict::Agrees => b'=',
+            Verdict::Number => b'n',
+            Verdict::Value => b'v',
+            Verdict::Memory => b'm',
+            Verdict::Unreadable => b'?',
         }
-        i += 1;
     }
-    true
 }
 
-fn verdict(outcome: [u64; 9], said: Said, left: bool) -> u8 {
-    if said.number == call::NONE {
-        return UNREADABLE;
-    }
-    if said.number != outcome[0] {
-        return NUMBER;
-    }
-    let values = said.values;
-    if !has_values(outcome, values) {
-        return VALUE;
-    }
-    if !left {
-        return MEMORY;
-    }
-    AGREES
+// A line's mark, if it has one, and the verdict on it.
+#[derive(Clone, Copy, Debug, PartialEq, Eq)]
+pub struct Judged {
+    pub mark: Option<u8>,
+    pub verdict: Verdict,
 }
 
-// Fills memory with what it holds before the call.
-fn fill(case: &[u8], at: Case, bytes: &mut [u8], shorts: &mut [u16], words: &mut [i32]) {
-    memory::fill_bytes(before(case, at.bytes), bytes);
-    memory::fill_shorts(before(case, at.shorts), shorts);
-    memory::fill_words(before(case, at.words), words);
+impl Judged {
+    // Whether the line says what our code has to do. Any other line is wrong on purpose.
+    pub fn is_case(self) -> bool {
+        self.mark == Some(u8::from(Verdict::Agrees))
+    }
+
+    pub fn is_as_marked(self) -> bool {
+        self.mark == Some(u8::from(self.verdict))
+    }
+
+    pub fn is_read(self) -> bool {
+        self.verdict != Verdict::Unreadable
+    }
 }
 
-// Whether memory holds what it has to hold after the call.
-fn is_left(case: &[u8], at: Case, bytes: &[u8], shorts: &[u16], words: &[i32]) -> bool {
-    if !memory::has_bytes(after(case, at.bytes), bytes) {
-        return false;
+// What is wrong with a line that is not as it is marked.
+impl fmt::Display for Judged {
+    fn fmt<W: fmt::Write>(&self, f: &mut fmt::Formatter<W>) -> fmt::Result {
+        f.write_str(match self.verdict {
+            Verdict::Unreadable => "can't be read",
+            _ if !self.is_case() => "is wrong on purpose, and not found out",
+            Verdict::Number => "says another number",
+            Verdict::Value => "says another value",
+            _ => "leaves other memory",
+        })
     }
-    if !memory::has_shorts(after(case, at.shorts), shorts) {
-        return false;
+}
+
+// The verdict on what a call said, and on whether it left the memory that it had to leave.
+fn compared(outcome: Said, said: Said, left: bool) -> Verdict {
+    if said.number != outcome.number {
+        Verdict::Number
+    } else if said.values != outcome.values {
+        Verdict::Value
+    } else if !left {
+        Verdict::Memory
+    } else {
+        Verdict::Agrees
     }
-    memory::has_words(after(case, at.words), words)
 }
 
 // Runs a call on memory of the lengths that it is lent.
-fn run(
-    name: &[u8],
-    case: &[u8],
-    at: Case,
-    bytes: &mut [u8],
-    shorts: &mut [u16],
-    words: &mut [i32],
-) -> u8 {
-    fill(case, at, bytes, shorts, words);
-    let given = numbers_of(case, at.numbers);
-    let said = call::said(name, given, before(case, at.read), bytes, shorts, words);
-    let left = is_left(case, at, bytes, shorts, words);
-    verdict(numbers_of(case, at.outcome), said, left)
+fn run(name: &[u8], case: &Case<'_>) -> Option<Verdict> {
+    let mut bytes = [0u8; BYTES];
+    let mut shorts = [0u16; SHORTS];
+    let mut words = [0i32; WORDS];
+    let bytes = memory::lend(&mut bytes, case.bytes.before.len(), case.bytes.before);
+    let shorts = memory::lend(
+        &mut shorts,
+        case.shorts.before.len() / 2,
+        case.shorts.before,
+    );
+    let words = memory::lend(&mut words, case.words.before.len() / 4, case.words.before);
+    let lent = Memory {
+        bytes: &mut *bytes,
+        shorts: &mut *shorts,
+        words: &mut *words,
+    };
+    let said = call::said(name, case.numbers, case.read, lent)?;
+    let left = memory::opens_with(case.bytes.after, bytes)
+        && memory::opens_with(case.shorts.after, shorts)
+        && memory::opens_with(case.words.after, words);
+    Some(compared(case.outcome, said, left))
 }
 
-// A case ends with its outcome.
-fn judge_case(name: &[u8], case: &[u8]) -> u8 {
-    let at = parts_of(case);
-    let outcome = at.outcome;
-    if outcome.length == 0 {
-        return UNREADABLE;
-    }
-    if past(outcome) != case.len() {
-        return UNREADABLE;
-    }
-    let mut bytes = room::for_bytes();
-    let mut shorts = room::for_shorts();
-    let mut words = room::for_words();
-    let b = at.bytes;
-    let s = at.shorts;
-    let w = at.words;
-    run(
-        name,
-        case,
-        at,
-        memory::lend_bytes(&mut bytes, b.length),
-        memory::lend_shorts(&mut shorts, s.length / 2),
-        memory::lend_words(&mut words, w.length / 4),
-    )
+fn judge_text(name: &[u8], text: &[u8]) -> Option<Verdict> {
+    let mut room = room::zeros::<CASE>();
+    let case = Case::of(hex::unpack(text, &mut room)?)?;
+    run(name, &case)
 }
 
 // Judges the line of a call.
-pub fn judge(name: &[u8], text: &[u8]) -> u8 {
-    let mut case = room::for_case();
-    let count = unpack(text, &mut case);
-    if count >= room::CASE {
-        return UNREADABLE;
-    }
-    judge_case(name, part(&case, 0, count))
+pub fn judge(name: &[u8], text: &[u8]) -> Verdict {
+    judge_text(name, text).unwrap_or(Verdict::Unreadable)
 }

@@ -118,6 +118,9 @@ module _ (chunk : ℕ) where
   pub two_at : (j : ℕ) → ones_end ≤ chunk → j < 7 → get_or (stands_for chunk) j 0 ≡ chunk / 2 ^ (12 - 2 * j) % 4
   two_at j two inside = rw (stands-two two) (unpack-two chunk j inside)
 
+-- what `size` and `symbol_at` answer, by the kinds
+pub ruleset by_kind = (size-run, size-one, size-two, run_at, one_at, two_at)
+
 -- a chunk stands for the symbols that it was made of
 pub run-back : (symbol count : ℕ) → symbol < 4 → count < run_weight → stands_for (chunk_word (Run symbol count)) ≡ replicate count symbol
 unfolding chunk_word

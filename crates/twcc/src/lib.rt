@@ -32,7 +32,7 @@ pub const RUNS_END: usize = 32768;
 pub const ONES_END: usize = 49152;
 
 // What a status word says of its packet.
-#[derive(Clone, Copy)]
+#[derive(Clone, Copy, Debug, PartialEq, Eq)]
 pub enum Status {
     Received(i16),
     NotReceived,
@@ -42,6 +42,8 @@ pub enum Status {
 }
 
 impl Status {
+    // The status of any word. It is no `From`, since docs/PROOFS.md names it as `Status::of`.
+    #[tactic(auto, using(crate::proofs::Tested::statuses))]
     pub fn of(word: i32) -> Status
         ensures { result ≡ status_of word }
     {
@@ -64,7 +66,9 @@ impl Status {
     }
 }
 
-// A word's symbol, without a jump. Symbols are counted in 32 bits, so that four go into a vector.
+// A word's symbol, without a jump. Symbols are numbers and no enum: they are a chunk's digits, and are added and multiplied. They are
+// counted in 32 bits, so that four go into a vector.
+#[tactic(auto, using(crate::proofs::Tested::symbol_read))]
 pub fn symbol(word: i32) -> u32
     ensures { (result ≡ symbol_of word) × (result ≤ 2) }
 {
@@ -73,7 +77,8 @@ pub fn symbol(word: i32) -> u32
     if NOT_RECEIVED <= word { 0 } else { received }
 }
 
-// 1 for a small delta, else 0.
+// 1 for a small delta, else 0: a number, for sums without a jump.
+#[tactic(auto, using(crate::proofs::Tested::small_read))]
 pub fn small(word: i32) -> u32
     ensures { result ≡ symbol_of word % 2 }
 {
@@ -82,6 +87,7 @@ pub fn small(word: i32) -> u32
 }
 
 // How many symbols a chunk stands for.
+#[tactic(auto, using(crate::proofs::Stands::by_kind))]
 pub fn size(chunk: usize) -> usize
     ensures { result ≡ length (stands_for chunk) }
 {
@@ -95,6 +101,7 @@ pub fn size(chunk: usize) -> usize
 }
 
 // The symbol at a place of a chunk, 0 past its last.
+#[tactic(auto, using(crate::proofs::Stands::by_kind))]
 pub fn symbol_at(chunk: usize, place: usize) -> usize
     ensures { result ≡ get_or (stands_for chunk) place 0 }
 {

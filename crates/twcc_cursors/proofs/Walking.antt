@@ -9,49 +9,29 @@ use native.Mathlib.Omega.{arith}
 use borrow.Author.Tests.{lt-ltb, le-ltb}
 use lib.IntN.{ℤ}
 use lib.ListN.{length, take, drop, length-take, drop_of_length-le}
+use Rattle.std.specs.Prelude.{Option, None, Some}
 use lib.Seq.{drop-cons, get_or-take, length-take-le}
 use Rattle.kinds.specs.declared.Seq.{Seq}
-use Rattle.refusal.specs.Outcome.{gave}
-use Rattle.refusal.specs.Number.{no as refused}
-use Rattle.refusal.specs.declared.Refusal.{Refusal}
-use Rattle.refusal.specs.declared.Refusal.TheVariants.{Truncated}
 use Rattle.twcc.specs.Words.{bytes_of, word_of, entries}
 use Rattle.twcc.specs.Chunks.{stands_for}
 use Rattle.twcc.specs.Block.{base_of, symbols, block_symbols, listed}
 use Rattle.twcc.proofs.Reading.{deltas-there}
-use Rattle.twcc_cursors.specs.Cursors.{header_of, counts_of, full_chunk, next_delta}
-use Rattle.twcc_cursors.specs.Packets.{first_packets, opened, symbol_here, packets_after, packet_at, on_chunk, from_chunk, next_packet, Walks}
-use Rattle.twcc_cursors.specs.declared.Chunks.{Chunks}
+use Rattle.twcc_cursors.specs.Cursors.{full_chunk, next_delta}
+use Rattle.twcc_cursors.specs.Packets.{first_packets, symbol_here, packets_after, packet_at, on_chunk, from_chunk, next_packet, Walks}
 use Rattle.twcc_cursors.specs.declared.NextChunk.{NextChunk}
-use Rattle.twcc_cursors.specs.declared.NextChunk.TheVariants as got
-use Rattle.twcc_cursors.specs.declared.Delta.{Delta}
 use Rattle.twcc_cursors.specs.declared.Deltas.{Deltas}
-use Rattle.twcc_cursors.specs.declared.Header.{Header}
-use Rattle.twcc_cursors.specs.declared.Counts.{Counts}
 use Rattle.twcc_cursors.specs.declared.Packets.{Packets}
-use Rattle.twcc_cursors.specs.declared.NextPacket.TheVariants as packet
+use Rattle.twcc_cursors.specs.declared.NextPacket.{NextPacket}
 use Rattle.twcc_cursors.proofs.Steps.{FullIs, full_is, drop_clamp}
 
 -- ---- one step of the packets
 
-pub packet_is : (s : List ℕ) (p : Packets) (symbol : ℕ) (word : ℤ) (delta : Delta) (number : Seq) → symbol ≡ symbol_here p
-    → delta ≡ next_delta s p.deltas symbol → word ≡ delta.word → number.0 ≡ (p.number.0 + 1) % 65536
-    → packet.Packet p.number word
-    (record { number = number; chunk = p.chunk; place = p.place + 1; end = p.end; chunks = p.chunks; deltas = delta.next })
-    ≡ packet_at s p
-unfolding packet_at
-packet_is s p symbol word delta number a-symbol a-delta a_word a-number =
-    let step : delta ≡ next_delta s p.deltas (symbol_here p) = a-delta ∙ ap (next_delta s p.deltas) a-symbol in
-    let here : word ≡ (next_delta s p.deltas (symbol_here p)).word = a_word ∙ ap (λ (d : Delta). d.word) step in
-    λ i. packet.Packet p.number (here i)
-    (record { number = record { 0 = a-number i }; chunk = p.chunk; place = p.place + 1; end = p.end; chunks = p.chunks; deltas = (step i).next })
-
 module _ (s : List ℕ) (p : Packets) where
-  pub next_here : p.place < p.end → next_packet s p ≡ packet_at s p
+  pub next_here : p.place < p.end → next_packet s p ≡ Some (packet_at s p)
   unfolding next_packet
   next_here inside = simp (lt-ltb _ _ inside)
 
-  pub next_chunk_lem : {step : NextChunk} → p.end ≤ p.place
+  pub next_chunk_lem : {step : Option NextChunk} → p.end ≤ p.place
       → full_chunk (drop p.chunks.at s) p.chunks.at p.chunks.left ≡ step → next_packet s p ≡ from_chunk s p step
   unfolding next_packet
   next_chunk_lem over is = simp (le-ltb _ _ over) (ap (from_chunk s p) is)
@@ -75,40 +55,40 @@ come_chunk s p over =
     let few : length (take p.end (stands_for p.chunk)) ≤ p.place = rw length-take (omega arith) in
     rw (drop_of_length-le (take p.end (stands_for p.chunk)) few) refl
 
-come_new : (s : List ℕ) (p : Packets) (chunk n : ℕ) (next : Chunks)
-    → to_come s (on_chunk p chunk n next) ≡ take n (stands_for chunk) ++ symbols (drop next.at s) next.left
+come_new : (s : List ℕ) (p : Packets) (got : NextChunk)
+    → to_come s (on_chunk p got) ≡ take got.count (stands_for got.chunk) ++ symbols (drop got.next.at s) got.next.left
 unfolding to_come
-come_new s p chunk n next = refl
+come_new s p got = refl
 
 -- the cursor that the next packet is read at
 record Ready (s : List ℕ) (p q : Packets) (ss : List ℕ) : Type 0 where
-  next : next_packet s p ≡ packet_at s q
+  next : next_packet s p ≡ Some (packet_at s q)
   number : q.number ≡ p.number
   deltas : q.deltas ≡ p.deltas
   size : q.end ≤ length (stands_for q.chunk)
   come : symbol_here q ∷ to_come s (packets_after s q) ≡ ss
 
 record Ended (s : List ℕ) (p : Packets) (ss : List ℕ) : Type 0 where
-  next : next_packet s p ≡ packet.Over
+  next : next_packet s p ≡ None
   none : ss ≡ []
 
 ready : (s : List ℕ) (p : Packets) → p.end ≤ length (stands_for p.chunk) → Ended s p (to_come s p) ⊎ ((q : Packets) × Ready s p q (to_come s p))
 ready s p size = by_place (dec_lt p.place p.end)
   where
-    at_chunk : p.end ≤ p.place → (step : NextChunk) → full_chunk (drop p.chunks.at s) p.chunks.at p.chunks.left ≡ step
+    at_chunk : p.end ≤ p.place → (step : Option NextChunk) → full_chunk (drop p.chunks.at s) p.chunks.at p.chunks.left ≡ step
         → FullIs s (symbols (drop p.chunks.at s) p.chunks.left) step → Ended s p (to_come s p) ⊎ ((q : Packets) × Ready s p q (to_come s p))
-    at_chunk over got.Over is full = inl (record { next = next_chunk_lem s p over is; none = come_chunk s p over ∙ full })
-    at_chunk over (got.Taken chunk n next) is full =
+    at_chunk over None is full = inl (record { next = next_chunk_lem s p over is; none = come_chunk s p over ∙ full })
+    at_chunk over (Some got) is full =
         inr (
-          on_chunk p chunk n next,
+          on_chunk p got,
           record {
             next = next_chunk_lem s p over is;
             number = refl;
             deltas = refl;
             size = full.size;
             come =
-                sym (come_here s (on_chunk p chunk n next) full.some full.size)
-                ∙ come_new s p chunk n next
+                sym (come_here s (on_chunk p got) full.some full.size)
+                ∙ come_new s p got
                 ∙ sym full.more
                 ∙ sym (come_chunk s p over);
           },
@@ -133,9 +113,9 @@ unfolding next_delta
 rest-here s q = drop_clamp s q.deltas.at (bytes_of (symbol_here q))
 
 packet_at_lem : (s : List ℕ) (q : Packets) {number : Seq} {word : ℤ} → q.number ≡ number
-    → (next_delta s q.deltas (symbol_here q)).word ≡ word → packet_at s q ≡ packet.Packet number word (packets_after s q)
+    → (next_delta s q.deltas (symbol_here q)).word ≡ word → ◌≡◌ {A = NextPacket} (packet_at s q) (record { number = number; word = word; next = packets_after s q })
 unfolding packet_at
-packet_at_lem s q a-number a_word = λ i. packet.Packet (a-number i) (a_word i) (packets_after s q)
+packet_at_lem s q a-number a_word = λ i. record { number = a-number i; word = a_word i; next = packets_after s q }
 
 -- what walking owes of a cursor whose symbols to come are ss
 abbrev Owes : List ℕ → ℕ → ℕ → List ℕ → Packets → Type 0
@@ -144,7 +124,7 @@ Owes s base k ss p =
     → Walks s base k p (entries ss (drop p.deltas.at s))
 
 walk-over : (s : List ℕ) (p : Packets) → to_come s p ≡ [] → Ended s p (to_come s p) ⊎ ((q : Packets) × Ready s p q (to_come s p))
-    → next_packet s p ≡ packet.Over
+    → next_packet s p ≡ None
 walk-over s p come (inl ended) = ended.next
 walk-over s p come (inr (q, at)) = let none = ap length (at.come ∙ come) in absurd (omega arith)
 
@@ -165,7 +145,7 @@ walk_more s base k p x ss number come further (inr (q, at)) =
     let after : drop (packets_after s q).deltas.at s ≡ drop (bytes_of x) (drop p.deltas.at s) = rest-here s q ∙ rw (head, deltas) refl in (
       packets_after s q,
       (
-        at.next ∙ packet_at_lem s q here word,
+        at.next ∙ ap Some (packet_at_lem s q here word),
         subst (λ (ds : List ℕ). Walks s base (suc k) (packets_after s q) (entries ss ds)) after
             (further (packets_after s q) (omega arith) at.size rest),
       ),
@@ -182,21 +162,3 @@ unfolding listed block_symbols to_come
 packets_listed block small =
     subst (λ (ds : List ℕ). Walks block (base_of block) 0 (first_packets block) (entries (block_symbols block) ds)) (deltas-there block)
     (walk block (base_of block) 0 (block_symbols block) (first_packets block) (omega arith) (omega arith) refl)
-
-pub opened-short : (block : List ℕ) (r : Refusal) → length block < 8 → r ≡ Truncated 8 (length block) → refused r ≡ opened block
-unfolding opened
-opened-short block r short is = rw is (simp (lt-ltb _ _ short))
-
-pub opened-long : (block : List ℕ) (header : Header) (counts : Counts) → 8 ≤ length block → header ≡ header_of block → counts ≡ counts_of block
-    → gave
-    (record {
-      number = header.base;
-      chunk = 0;
-      place = 0;
-      end = 0;
-      chunks = record { at = 8; left = header.statuses };
-      deltas = record { at = counts.start };
-    })
-    ≡ opened block
-unfolding opened
-opened-long block header counts long a-header a-counts = simp (le-ltb _ _ long, a-header, a-counts)

@@ -1,27 +1,29 @@
 // The parts of a TWCC block: its header, its chunks, its deltas and its packets. Chunks, deltas and packets are cursors by value;
-// `next` hands back what stands there and the next cursor. Every function takes any block.
+// `next` hands back what stands there and the next cursor. Every function takes any block. The block is no field of a cursor, and a cursor
+// no iterator: the walk that proofs/Walking speaks of is over cursors as plain numbers, beside one block.
 #![tactic(auto)]
 
 ghost use Rattle.std.specs.Prelude.{◌≡◌, ◌+◌, ◌*◌, ◌≤◌, ◌<◌, drop};
 ghost use Rattle.twcc.specs.Words.{signed16};
 ghost use Rattle.twcc.specs.Time.{latest, time_of};
-ghost use Rattle.twcc_cursors.specs.Cursors.{said_headed, headed, counts_of, next_chunk, full_chunk, next_delta};
-ghost use Rattle.twcc_cursors.specs.Packets.{said_opened, opened, packet_at, next_packet};
+ghost use Rattle.refusal.specs.Said.{said};
+ghost use Rattle.twcc_cursors.specs.Cursors.{headed, counts_of, next_chunk, full_chunk, next_delta};
+ghost use Rattle.twcc_cursors.specs.Packets.{opened, packet_at, next_packet};
 
 use kinds::{RefTime, Seq};
 use refusal::Refusal;
 use twcc::{NOT_RECEIVED, RESERVED, TRUNCATED};
 
 // The time of 24 bits.
-fn time_of(bits: usize) -> RefTime
+fn time_of(bits: u32) -> RefTime
     requires { bits ≤ latest }
     ensures { result.0 ≡ time_of bits }
 {
-    RefTime(bits as u32)
+    RefTime(bits)
 }
 
 // A block's header.
-#[derive(Clone, Copy)]
+#[derive(Clone, Copy, Debug, PartialEq, Eq)]
 pub struct Header {
     pub base: Seq,
     pub statuses: u16,
@@ -29,106 +31,86 @@ pub struct Header {
     pub feedback: u8,
 }
 
-// A header, or the refusal of a block that is too short for one.
-#[derive(Clone, Copy)]
-pub enum Headed {
-    Header(Header),
-    No(Refusal),
-}
-
 impl Header {
     // The header of a block of at least eight bytes.
-    pub fn of(block: &[u8]) -> Headed
-        ensures { said_headed result ≡ headed block.now }
+    #[tactic(auto, unfolding(crate::specs::Cursors::headed), using(std::proofs::lemmas::Bool::Decides::nat_tests))]
+    pub fn of(block: &[u8]) -> Result<Header, Refusal>
+        ensures { said result ≡ headed block.now }
     {
         if block.len() < 8 {
-            return Headed::No(Refusal::Truncated {
+            return Err(Refusal::Truncated {
                 expected: 8,
                 actual: block.len(),
             });
         }
-        let base = octets::be16_at(block, 0);
-        let statuses = octets::be16_at(block, 2);
-        let time = 256 * octets::be16_at(block, 4) + octets::byte_at(block, 6);
-        let feedback = octets::byte_at(block, 7);
-        Headed::Header(Header {
-            base: Seq(base as u16),
-            statuses: statuses as u16,
+        let base = u16::from_be_bytes([block[0], block[1]]);
+        let statuses = u16::from_be_bytes([block[2], block[3]]);
+        let time = u32::from_be_bytes([0, block[4], block[5], block[6]]);
+        let feedback = block[7];
+        Ok(Header {
+            base: Seq(base),
+            statuses,
             time: time_of(time),
-            feedback: feedback as u8,
+            feedback,
         })
     }
 }
 
 // The chunks to come: where the next one stands, and the statuses left.
-#[derive(Clone, Copy)]
+#[derive(Clone, Copy, Debug, PartialEq, Eq)]
 pub struct Chunks {
     pub at: usize,
     pub left: usize,
 }
 
 // A chunk, how many entries it lists, and the chunks after it.
-#[derive(Clone, Copy)]
-pub enum NextChunk {
-    Taken {
-        chunk: usize,
-        count: usize,
-        next: Chunks,
-    },
-    Over,
+#[derive(Clone, Copy, Debug, PartialEq, Eq)]
+pub struct NextChunk {
+    pub chunk: usize,
+    pub count: usize,
+    pub next: Chunks,
 }
 
 impl Chunks {
-    pub fn next(self, block: &[u8]) -> NextChunk
+    #[tactic(auto, unfolding(crate::specs::Cursors::next_chunk), using(std::proofs::lemmas::Bool::Decides::nat_tests))]
+    pub fn next(self, block: &[u8]) -> Option<NextChunk>
         ensures { result ≡ next_chunk block.now self }
     {
         let at = self.at;
         let left = self.left;
-        if left == 0 {
-            return NextChunk::Over;
-        }
-        if block.len() < 2 {
-            return NextChunk::Over;
-        }
-        if block.len() - 2 < at {
-            return NextChunk::Over;
+        if left == 0 || block.len() < 2 || block.len() - 2 < at {
+            return None;
         }
         let chunk = octets::be16_at(block, at);
         let size = twcc::size(chunk);
-        let count = octets::lesser(left, size);
-        NextChunk::Taken {
+        let count = left.min(size);
+        Some(NextChunk {
             chunk,
             count,
             next: Chunks {
                 at: at + 2,
                 left: left - count,
             },
-        }
+        })
     }
 
     // The next chunk that lists an entry: a run of length 0 costs its two bytes.
-    fn next_full(self, block: &[u8]) -> NextChunk
+    fn next_full(self, block: &[u8]) -> Option<NextChunk>
         ensures { result ≡ full_chunk (drop self.at block.now) self.at self.left }
     {
         let mut c = self;
-        loop {
-            match c.next(block) {
-                NextChunk::Taken { chunk, count, next } => {
-                    if 0 < count {
-                        return NextChunk::Taken { chunk, count, next };
-                    }
-                    c = next;
-                }
-                NextChunk::Over => {
-                    return NextChunk::Over;
-                }
+        while let Some(got) = c.next(block) {
+            if 0 < got.count {
+                return Some(got);
             }
+            c = got.next;
         }
+        None
     }
 }
 
 // How many entries a block lists, and where its deltas start.
-#[derive(Clone, Copy)]
+#[derive(Clone, Copy, Debug, PartialEq, Eq)]
 pub struct Counts {
     pub listed: usize,
     pub start: usize,
@@ -137,8 +119,7 @@ pub struct Counts {
 pub fn count(block: &[u8]) -> Counts
     ensures { result ≡ counts_of block.now }
 {
-    let headed = Header::of(block);
-    let Headed::Header(header) = headed else {
+    let Ok(header) = Header::of(block) else {
         return Counts {
             listed: 0,
             start: block.len(),
@@ -146,46 +127,35 @@ pub fn count(block: &[u8]) -> Counts
     };
     let mut c = Chunks {
         at: 8,
-        left: header.statuses as usize,
+        left: usize::from(header.statuses),
     };
-    let mut listed: usize = 0;
-    loop {
-        match c.next(block) {
-            NextChunk::Taken {
-                chunk: _,
-                count,
-                next,
-            } => {
-                listed = listed + count;
-                c = next;
-            }
-            NextChunk::Over => {
-                return Counts {
-                    listed,
-                    start: c.at,
-                };
-            }
-        }
+    let mut listed = 0;
+    while let Some(got) = c.next(block) {
+        listed += got.count;
+        c = got.next;
+    }
+    Counts {
+        listed,
+        start: c.at,
     }
 }
 
-// A large delta: two bytes as a signed number. The high byte gets its sign without a test: half of what a byte holds is
-// added, modulo all of it, and taken off.
+// A large delta: two bytes as a signed number. By `from_be_bytes` the reader's two-bit vectors would take more instructions (139 for 133).
+#[tactic(auto, using(crate::proofs::Steps::signed_high))]
 pub fn large(high: u8, low: u8) -> i32
     ensures { result ≡ signed16 (256 * high + low) }
 {
-    let high = ((high as u32 + 128) % 256) as i32 - 128;
-    256 * high + (low as i32)
+    256 * i32::from(high.cast_signed()) + i32::from(low)
 }
 
 // The deltas to come: where the next one stands.
-#[derive(Clone, Copy)]
+#[derive(Clone, Copy, Debug, PartialEq, Eq)]
 pub struct Deltas {
     pub at: usize,
 }
 
 // An entry's status word, and the deltas after it.
-#[derive(Clone, Copy)]
+#[derive(Clone, Copy, Debug, PartialEq, Eq)]
 pub struct Delta {
     pub word: i32,
     pub next: Deltas,
@@ -193,6 +163,7 @@ pub struct Delta {
 
 impl Deltas {
     // The entry with this symbol. Of a large delta's bytes it eats what is there.
+    #[tactic(auto, unfolding(crate::specs::Cursors::next_delta), using(crate::proofs::Steps::deltas))]
     pub fn next(self, block: &[u8], symbol: usize) -> Delta
         ensures { result ≡ next_delta block.now self symbol }
     {
@@ -237,7 +208,7 @@ impl Deltas {
 
 // The packets to come, as the Rust's `packets` gives them: the next one's number, the chunk being listed, the next symbol's place in it and how many it
 // lists, the chunks after it, and the deltas.
-#[derive(Clone, Copy)]
+#[derive(Clone, Copy, Debug, PartialEq, Eq)]
 pub struct Packets {
     pub number: Seq,
     pub chunk: usize,
@@ -247,95 +218,73 @@ pub struct Packets {
     pub deltas: Deltas,
 }
 
-#[derive(Clone, Copy)]
-pub enum Opened {
-    Packets(Packets),
-    No(Refusal),
-}
-
 // A packet's number and status word, and the packets after it.
-#[derive(Clone, Copy)]
-pub enum NextPacket {
-    Packet {
-        number: Seq,
-        word: i32,
-        next: Packets,
-    },
-    Over,
+#[derive(Clone, Copy, Debug, PartialEq, Eq)]
+pub struct NextPacket {
+    pub number: Seq,
+    pub word: i32,
+    pub next: Packets,
 }
 
 impl Packets {
     // All packets of a block, from its base on.
-    pub fn of(block: &[u8]) -> Opened
-        ensures { said_opened result ≡ opened block.now }
+    #[tactic(auto, unfolding(crate::specs::Cursors::headed, crate::specs::Packets::opened), using(std::proofs::lemmas::Bool::Decides::nat_tests))]
+    pub fn of(block: &[u8]) -> Result<Packets, Refusal>
+        ensures { said result ≡ opened block.now }
     {
-        match Header::of(block) {
-            Headed::No(r) => Opened::No(r),
-            Headed::Header(header) => {
-                let base = header.base;
-                let counts = count(block);
-                Opened::Packets(Packets {
-                    number: base,
-                    chunk: 0,
-                    place: 0,
-                    end: 0,
-                    chunks: Chunks {
-                        at: 8,
-                        left: header.statuses as usize,
-                    },
-                    deltas: Deltas { at: counts.start },
-                })
-            }
-        }
+        let header = Header::of(block)?;
+        let counts = count(block);
+        Ok(Packets {
+            number: header.base,
+            chunk: 0,
+            place: 0,
+            end: 0,
+            chunks: Chunks {
+                at: 8,
+                left: usize::from(header.statuses),
+            },
+            deltas: Deltas { at: counts.start },
+        })
     }
 
     // The packet at the place in the chunk being listed.
+    #[tactic(auto, unfolding(crate::specs::Packets::packet_at), using(std::proofs::lemmas::Int::ints))]
     fn here(self, block: &[u8]) -> NextPacket
         requires { self.place < self.end }
         ensures { result ≡ packet_at block.now self }
     {
         let number = self.number;
-        let chunks = self.chunks;
-        let deltas = self.deltas;
-        let delta = deltas.next(block, twcc::symbol_at(self.chunk, self.place));
-        let after = delta.next;
-        NextPacket::Packet {
+        let delta = self
+            .deltas
+            .next(block, twcc::symbol_at(self.chunk, self.place));
+        NextPacket {
             number,
             word: delta.word,
             next: Packets {
                 number: number.next(),
-                chunk: self.chunk,
                 place: self.place + 1,
-                end: self.end,
-                chunks,
-                deltas: after,
+                deltas: delta.next,
+                ..self
             },
         }
     }
 
     // The number moves on for each packet listed, an unreadable one too.
-    pub fn next(self, block: &[u8]) -> NextPacket
+    #[tactic(auto, unfolding(crate::specs::Packets::next_packet), using(crate::proofs::Steps::packets))]
+    pub fn next(self, block: &[u8]) -> Option<NextPacket>
         ensures { result ≡ next_packet block.now self }
     {
         if self.place < self.end {
-            return self.here(block);
+            return Some(self.here(block));
         }
-        let number = self.number;
-        let chunks = self.chunks;
-        let deltas = self.deltas;
-        match chunks.next_full(block) {
-            NextChunk::Taken { chunk, count, next } => {
-                let packets = Packets {
-                    number,
-                    chunk,
-                    place: 0,
-                    end: count,
-                    chunks: next,
-                    deltas,
-                };
-                packets.here(block)
-            }
-            NextChunk::Over => NextPacket::Over,
-        }
+        let got = self.chunks.next_full(block)?;
+        let packets = Packets {
+            chunk: got.chunk,
+            place: 0,
+            end: got.count,
+            chunks: got.next,
+            ..self
+        };
+        Some(packets.here(block))
     }
 }

@@ -3,13 +3,16 @@
 use Prim.Native.Nat.{ℕ, zero, suc, ◌+◌, ◌%◌, ◌≤◌, ◌<◌}
 use mathlib.Core.Path.{◌≡◌, refl, sym, ap, subst, ◌∙◌}
 use mathlib.Core.List.{List, [], ◌∷◌, map}
-use mathlib.Core.Bool.{Bool, true, false, cond}
 use native.Mathlib.Omega.{arith}
 use borrow.Author.Tests.{le-ltb}
 use lib.Dec.{ltb}
 use lib.IntN.{ℤ}
 use lib.ListN.{length, take, drop, length-take, length-drop}
-use Rattle.refusal.specs.Outcome.{gave, refuse}
+use Rattle.std.specs.Prelude.{Result, Ok}
+use Rattle.refusal.specs.Outcome.{gave}
+use Rattle.refusal.specs.Said.{said as said_of}
+use Rattle.refusal.specs.declared.Refusal.{Refusal}
+use Rattle.refusal.proofs.Unique.{said_unique}
 use Rattle.twcc.specs.Words.{AllValid}
 use Rattle.twcc.specs.Block.{listed}
 use Rattle.twcc_plan.specs.Block.{most_entries, taken_of, size_of, block_bytes}
@@ -17,16 +20,13 @@ use Rattle.twcc_plan.proofs.PlanLaws.{wide-eight}
 use Rattle.twcc_plan.proofs.BlockLaws.{valid-drop, block-takes, block-length, block-list, taken-fits}
 use Rattle.twcc_cursors.specs.Cursors.{header_of}
 use Rattle.twcc_cursors.specs.declared.Header.{Header}
-use Rattle.twcc_read.specs.Promise.{said_reading, read_answer, Reads}
+use Rattle.twcc_read.specs.Promise.{read_answer, Reads}
 use Rattle.twcc_read.proofs.Keeping.{read-within}
 use Rattle.twcc_read.specs.declared.Listed.{Listed}
-use Rattle.twcc_read.specs.declared.Reading.{Reading}
-use Rattle.twcc_read.specs.declared.Reading.TheVariants as reading
 use Rattle.twcc_write.specs.Promise.{Wrote}
-use Rattle.twcc_cut.proofs.Answers.{used_for, block-there, block-answered}
+use Rattle.twcc_write.proofs.Answers.{passes}
+use Rattle.twcc_cut.proofs.Answers.{past, used_for, block-there}
 use Rattle.twcc_write.specs.declared.Used.{Used}
-use Rattle.twcc_write.specs.declared.Written.{Written}
-use Rattle.twcc_write.specs.declared.Written.TheVariants as written
 use Rattle.twcc_cut.specs.Cut.{Choice, Fits, Part, part_of, Cut, AllFit, back}
 use Rattle.twcc_cut.specs.Cut as cut
 use Rattle.twcc_cut.specs.Calls.{Call, block_of, part_from, Calls, given, CallsWhole, Enough, Writer, Reader, Ways, nothing_left, one_more}
@@ -39,16 +39,13 @@ pub record Read (block : List ℕ) (said : Listed) (words : List ℤ) : Type 0 w
   pub header : said.header ≡ header_of block
   pub entries : take said.count words ≡ listed block
 
-answer_is : {said x : Listed} (b₁ b₂ : Bool) (values values' : List ℕ) → gave said ≡ cond b₁ (refuse 1 values) (cond b₂ (refuse 15 values') (gave x)) → said ≡ x
-answer_is true b₂ values values' is = cc
-answer_is false true values values' is = cc
-answer_is false false values values' is = cc
-
-pub read-there : (block : List ℕ) (room : List ℤ) (said : Listed) (words : List ℤ) → Reads block room (reading.Block said) words → Read block said words
+pub read-there : (block : List ℕ) (room : List ℤ) (said : Listed) (words : List ℤ) → Reads block room (Ok said) words → Read block said words
 unfolding read_answer
 read-there block room said words reads =
-    let known = read-within block room (reading.Block said) words reads in
-    let is = answer_is (ltb (length block) 8) (ltb (length room) (length (listed block))) (8 ∷ length block ∷ []) (length (listed block) ∷ length room ∷ []) reads.answer in
+    let known = read-within block room (Ok said) words reads in
+    let whole = past (ltb (length block) 8) _ (8 ∷ length block ∷ []) _ (sym reads.answer) in
+    let gives = (past (ltb (length room) (length (listed block))) _ (length (listed block) ∷ length room ∷ []) _ whole.1).1 in
+    let is : said ≡ record { header = header_of block; count = length (listed block) } = cc in
     record {
       header = ap (λ (l : Listed). l.header) is;
       entries = ap (λ (n : ℕ). take n words) known.0 ∙ known.1.front;
@@ -68,7 +65,7 @@ calls_cut {base} {list} (one_more {calls = calls} c there wrote reads later) =
 
 calls_passed : {base : ℕ} {list : List ℤ} {calls : List Call} → Calls base list calls → AllValid list × (length list ≤ most_entries)
 calls_passed nothing_left = (tt, omega arith)
-calls_passed (one_more c there wrote reads later) = let passed = (block-there c.used wrote).passed in (passed.valid, passed.short)
+calls_passed (one_more c there wrote reads later) = let passed = (block-there c.used wrote).passed in (passed.valid, passed.plannable.short)
 
 -- and the reader gives what they read as
 calls_given : {base : ℕ} {list : List ℤ} {calls : List Call} → Calls base list calls → given calls ≡ back (map part_from calls)
@@ -86,23 +83,19 @@ calls_whole base list calls made small fit =
     let whole = cut_whole base list (map part_from calls) (calls_cut made) small passed.1 passed.0 fit in
     record { each = whole.each; read_back = calls_given made ∙ whole.read_back }
 
-reading_is : (r : Reading) (said : Listed) → said_reading r ≡ gave said → r ≡ reading.Block said
-reading_is (reading.Block l) said is = cc
-reading_is (reading.No q) said is = cc
-
 -- ---- that the procedure goes on: with room, no call on what is left is refused, and the writer takes an entry
 
-pub write_goes_on : (base : ℕ) (list : List ℤ) {old new : List ℕ} (c : Choice) (answer : Written) → Fits c → zero < length list → length list ≤ most_entries → AllValid list
+pub write_goes_on : (base : ℕ) (list : List ℤ) {old new : List ℕ} (c : Choice) (answer : Result Used Refusal) → Fits c → zero < length list → length list ≤ most_entries → AllValid list
     → size_of c.limit list ≤ length old → Wrote base c.time c.feedback list c.limit old answer new
-    → (answer ≡ written.Block (used_for list c.limit)) × (zero < taken_of c.limit list)
+    → (answer ≡ Ok (used_for list c.limit)) × (zero < taken_of c.limit list)
 write_goes_on base list c answer fits there short valid room wrote = (
-  block-answered answer (record { fits = fits.1; short = short; valid = valid; eight = wide-eight c.limit fits.0; enough = room }) wrote.answer,
+  said_unique answer (Ok (used_for list c.limit)) (wrote.answer ∙ passes (record { fits = fits.1; plannable = record { short = short; eight = wide-eight c.limit fits.0 }; valid = valid; room = room })),
   block-takes c.limit list fits.0 there,
 )
 
-pub read_goes_on : (base : ℕ) (list : List ℤ) {room words : List ℤ} (c : Choice) (r : Reading) → Fits c → AllValid list → taken_of c.limit list ≤ length room
+pub read_goes_on : (base : ℕ) (list : List ℤ) {room words : List ℤ} (c : Choice) (r : Result Listed Refusal) → Fits c → AllValid list → taken_of c.limit list ≤ length room
     → Reads (block_bytes base c.time c.feedback c.limit list) room r words
-    → r ≡ reading.Block (record { header = header_of (block_bytes base c.time c.feedback c.limit list); count = taken_of c.limit list })
+    → r ≡ Ok (record { header = header_of (block_bytes base c.time c.feedback c.limit list); count = taken_of c.limit list })
 unfolding read_answer
 read_goes_on base list {room} {words} c r fits valid enough reads =
     let block = block_bytes base c.time c.feedback c.limit list in
@@ -110,29 +103,29 @@ read_goes_on base list {room} {words} c r fits valid enough reads =
     let size : 8 ≤ length block = omega (arith, block-length c.limit list eight base c.time c.feedback) in
     let n : length (listed block) ≡ taken_of c.limit list =
     ap length (block-list c.limit list eight base c.time c.feedback valid) ∙ omega (arith, length-take (taken_of c.limit list) list, taken-fits c.limit list eight) in
-    let answer : said_reading r ≡ gave (record { header = header_of block; count = taken_of c.limit list }) =
+    let answer : said_of r ≡ gave (record { header = header_of block; count = taken_of c.limit list }) =
     reads.answer ∙ simp (le-ltb (length block) 8 size, n, le-ltb (length room) (taken_of c.limit list) enough) in
-    reading_is r _ answer
+    said_unique r (Ok (record { header = header_of block; count = taken_of c.limit list })) answer
 
 module _ (write : Writer) (read : Reader) (way : Ways) (enough : (before : List Call) (list : List ℤ) → Enough (way before list) list) where
   one_call : (before : List Call) (base : ℕ) (list : List ℤ) → zero < length list → length list ≤ most_entries → AllValid list
       → (c : Call)
-      × (Wrote base c.choice.time c.choice.feedback list c.choice.limit c.before (written.Block c.used) c.after
-      × (Reads (block_of c) c.room (reading.Block c.said) c.words × (Fits c.choice × (c.used.taken ≡ taken_of c.choice.limit list))))
+      × (Wrote base c.choice.time c.choice.feedback list c.choice.limit c.before (Ok c.used) c.after
+      × (Reads (block_of c) c.room (Ok c.said) c.words × (Fits c.choice × (c.used.taken ≡ taken_of c.choice.limit list))))
   one_call before base list there short valid =
       let m = way before list in
       let e = enough before list in
       let w = write base list m in
       let goes = write_goes_on base list m.choice w.0 e.0 there short valid e.1 w.1.1 in
       let used = used_for list m.choice.limit in
-      let wrote = subst (λ (a : Written). Wrote base m.choice.time m.choice.feedback list m.choice.limit m.buffer a w.1.0) goes.0 w.1.1 in
+      let wrote = subst (λ (a : Result Used Refusal). Wrote base m.choice.time m.choice.feedback list m.choice.limit m.buffer a w.1.0) goes.0 w.1.1 in
       let block = block-there used wrote in
       let r = read (take used.bytes w.1.0) m.room in
       let there' = subst (λ (b : List ℕ). Reads b m.room r.0 r.1.0) block.there r.1.1 in
       let says = read_goes_on base list m.choice r.0 e.0 valid e.2 there' in
       let said : Listed = record { header = header_of (block_bytes base m.choice.time m.choice.feedback m.choice.limit list); count = taken_of m.choice.limit list } in (
         record { choice = m.choice; before = m.buffer; used = used; after = w.1.0; room = m.room; said = said; words = r.1.0 },
-        (wrote, (subst (λ (a : Reading). Reads (take used.bytes w.1.0) m.room a r.1.0) says r.1.1, (e.0, refl))),
+        (wrote, (subst (λ (a : Result Listed Refusal). Reads (take used.bytes w.1.0) m.room a r.1.0) says r.1.1, (e.0, refl))),
       )
 
   calls_from : (fuel : ℕ) (before : List Call) (base : ℕ) (list : List ℤ) → length list ≤ fuel → length list ≤ most_entries → AllValid list

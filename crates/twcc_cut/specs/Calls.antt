@@ -1,15 +1,12 @@
 -- The same of the code: calls of `write` and `read` one after the other, of which nothing is known but their promises.
-use Rattle.std.specs.Prelude.{ℕ, zero, ◌≤◌, ◌<◌, ◌≡◌, List, [], ◌∷◌, ◌++◌, map, ℤ, length, take, drop}
+use Rattle.std.specs.Prelude.{ℕ, zero, ◌≤◌, ◌<◌, ◌≡◌, List, [], ◌∷◌, ◌++◌, map, ℤ, length, take, drop, Result, Ok}
 use Rattle.kinds.specs.Seq.{later}
+use Rattle.refusal.specs.declared.Refusal.{Refusal}
 use Rattle.twcc_plan.specs.Block.{taken_of, size_of}
 use Rattle.twcc_read.specs.Promise.{Reads}
 use Rattle.twcc_read.specs.declared.Listed.{Listed}
-use Rattle.twcc_read.specs.declared.Reading.{Reading}
-use Rattle.twcc_read.specs.declared.Reading.TheVariants as reading
 use Rattle.twcc_write.specs.Promise.{Wrote}
 use Rattle.twcc_write.specs.declared.Used.{Used}
-use Rattle.twcc_write.specs.declared.Written.{Written}
-use Rattle.twcc_write.specs.declared.Written.TheVariants as written
 use Rattle.twcc_cut.specs.Numbered.{Numbered, numbered}
 use Rattle.twcc_cut.specs.Cut.{Choice, Fits, Part, AllKept}
 
@@ -34,8 +31,8 @@ part_from c = record { choice = c.choice; taken = c.used.taken; block = block_of
 pub data Calls : ℕ → List ℤ → List Call → Type 0 where
   nothing_left : {base : ℕ} → Calls base [] []
   one_more : {base : ℕ} {list : List ℤ} {calls : List Call} (c : Call) → zero < length list
-      → Wrote base c.choice.time c.choice.feedback list c.choice.limit c.before (written.Block c.used) c.after
-      → Reads (block_of c) c.room (reading.Block c.said) c.words
+      → Wrote base c.choice.time c.choice.feedback list c.choice.limit c.before (Ok c.used) c.after
+      → Reads (block_of c) c.room (Ok c.said) c.words
       → Calls (later base c.used.taken) (drop c.used.taken list) calls
       → Calls base list (c ∷ calls)
 
@@ -64,10 +61,10 @@ Enough m list = Fits m.choice × (size_of m.choice.limit list ≤ length m.buffe
 abbrev pub Writer : Type 0
 Writer =
     (base : ℕ) (list : List ℤ) (m : Means)
-    → (answer : Written) × ((new : List ℕ) × Wrote base m.choice.time m.choice.feedback list m.choice.limit m.buffer answer new)
+    → (answer : Result Used Refusal) × ((new : List ℕ) × Wrote base m.choice.time m.choice.feedback list m.choice.limit m.buffer answer new)
 
 abbrev pub Reader : Type 0
-Reader = (block : List ℕ) (room : List ℤ) → (r : Reading) × ((words : List ℤ) × Reads block room r words)
+Reader = (block : List ℕ) (room : List ℤ) → (r : Result Listed Refusal) × ((words : List ℤ) × Reads block room r words)
 
 -- a way of choosing: from the calls made so far, the last one first, and what is left
 abbrev pub Ways : Type 0

@@ -1,6 +1,5 @@
 -- Cutting a list into blocks, over the definitions of writing and reading: the procedure, and what is asked of it.
-use Rattle.std.specs.Prelude.{ℕ, zero, ◌≤◌, ◌<◌, ◌≡◌, List, [], ◌∷◌, ◌++◌, ℤ, length, drop}
-use Rattle.std.proofs.Math.Option.{Option}
+use Rattle.std.specs.Prelude.{ℕ, zero, ◌≤◌, ◌<◌, ◌≡◌, List, [], ◌∷◌, ◌++◌, ℤ, length, drop, Option}
 use Rattle.kinds.specs.Seq.{later}
 use Rattle.twcc.specs.Time.{latest}
 use Rattle.octets.specs.Bounds.{Below}

@@ -2,8 +2,8 @@
 -- weight settles of the choice.
 use Prim.Native.Nat.{ℕ, zero, suc, ◌+◌, ◌-◌, ◌*◌, ◌/◌, ◌%◌, ◌^◌, ◌≤◌, ◌<◌, min}
 use mathlib.Core.Path.{◌≡◌, refl, sym, ap, ◌∙◌}
-use mathlib.Core.List.{List, [], ◌∷◌, ◌++◌, map}
-use mathlib.Core.Bool.{true, false, cond, true≢false}
+use mathlib.Core.List.{List, [], ◌∷◌, map}
+use mathlib.Core.Bool.{true, cond}
 use native.Mathlib.Numerals.{add-one}
 use native.Mathlib.Nat.{pow-succ', sub-zero}
 use native.Mathlib.Omega.{arith}
@@ -11,11 +11,9 @@ use borrow.Author.Tests.{ltb-true, ltb-false, leb-true, leb-false, eqb-true, eqb
 use lib.Bits.{bit_or, or_add_and, and_le_l, and_le_r, or_shr, or_mod}
 use lib.Dec.{ltb, leb, eqb}
 use lib.IntN.{ℤ, pos, negsuc}
-use lib.Signed.{lt_z}
 use lib.ListN.{length, get_or, take, drop, length-take, length-map}
-use lib.Seq.{take-suc, get_or-take}
 use mir.Syntax.{w32}
-use mir.Val.{SFits, of_z, to_z}
+use mir.Val.{SFits, of_z}
 use Rattle.twcc.specs.Words.{half, symbol_of, width_of}
 use Rattle.octets.specs.Bounds.{Below}
 use Rattle.twcc.specs.Chunks.{runs_end, longest_run, pack}
@@ -24,7 +22,8 @@ use Rattle.octets.proofs.Logic.{by_test}
 use Rattle.twcc.proofs.Written.{bytes-symbol}
 use Rattle.twcc_plan.specs.Front.{front}
 use Rattle.twcc_plan.specs.Choice.{run_of, one_bit, ones_of, is_one, chunk_for}
-use Rattle.twcc_plan.proofs.PlanLaws.{front-run, width-run, width_le}
+use Rattle.twcc_plan.proofs.Fronts.{front_le, front_skip, front_yes, front_passes}
+use Rattle.twcc_plan.proofs.PlanLaws.{front-run, front-ones, width-run, width_le}
 use Rattle.twcc_plan.specs.Picked.{picked, vector_of, run_picked, weight_of}
 use Rattle.twcc_plan.specs.declared.pick.Picked.{Picked}
 use Rattle.twcc_plan.proofs.Symbols.{symbol-there}
@@ -59,16 +58,12 @@ plain-symbol (pos n) fits plain =
     (λ f. rw (e, f) (omega arith)))
 plain-symbol (negsuc n) fits plain = absurd (omega (arith, fits.sfits, plain.0))
 
-below_append : (b : ℕ) (xs ys : List ℕ) → Below b xs → Below b ys → Below b (xs ++ ys)
-below_append b [] ys left right = right
-below_append b (x ∷ xs) ys left right = (left.0, below_append b xs ys left.1 right)
-
 pub record Together (list : List ℤ) (bits n : ℕ) : Type 0 where
   pub within : n ≤ 14
-  pub plain : plain_bits bits → Below 2 (take n (map symbol_of list))
+  pub plain : plain_bits bits → n ≤ front one_bit (map symbol_of list)
 
 pub together_start : (list : List ℤ) → Together list 0 0
-together_start list = record { within = omega arith; plain = λ p. tt }
+together_start list = record { within = omega arith; plain = λ p. omega arith }
 
 pub together_turn : {list : List ℤ} {bits n : ℕ} → Together list bits n → n < 14 → n < length list → SFits w32 (get_or list n (pos 0)) → Together list (bit_or bits (of_z w32 (get_or list n (pos 0)))) (n + 1)
 together_turn {list} {bits} {n} t more inside fits =
@@ -79,28 +74,26 @@ together_turn {list} {bits} {n} t more inside fits =
       plain = λ p.
           let both = plain_both bits (of_z w32 word) p in
           let few : get_or ss n 0 < 2 = omega (arith, plain-symbol word fits both.1, symbol-there list n (pos 0) inside) in
-          rw (add-one n, take-suc ss n 0 (rw length-map inside)) (below_append 2 (take n ss) (get_or ss n 0 ∷ []) (t.plain both.0) (few, tt));
+          let before = t.plain both.0 in
+          omega (arith, front_skip one_bit n ss before, front_yes one_bit ss n 0 (rw length-map inside) (lt-ltb (get_or ss n 0) 2 few));
     }
 
-pub together_over : {list : List ℤ} {bits n : ℕ} → Together list bits n → 14 ≤ n → plain_bits bits → Below 2 (take 14 (map symbol_of list))
-together_over {list} {bits} {n} t over plain = let all : n ≡ 14 = omega (arith, t.within) in rw all at (t.plain plain)
-
--- what the tests of the bits as a signed number tell
-pub plain_tests : (b : ℕ) → lt_z (to_z w32 b) (pos 0) ≡ false → lt_z (pos 65535) (to_z w32 b) ≡ false → (to_z w32 b ≡ pos b) × (b < 65536)
-plain_tests b low high =
-    by_test (ltb b 2147483648)
-    (λ e.
-    let is : to_z w32 b ≡ pos b = rw e in
-    let few : ltb 65535 b ≡ false = rw is at high in
-    (is, omega (arith, ltb-false 65535 b few)))
-    (λ e. absurd (true≢false (rw e at low)))
+pub together_over : {list : List ℤ} {bits n : ℕ} → Together list bits n → 14 ≤ n → plain_bits bits → ones_of (map symbol_of list) ≡ 14
+unfolding ones_of
+together_over {list} {bits} {n} t over plain = omega (arith, t.plain plain)
 
 -- ---- the loop that weighs
 
-pub below_at : (b n : ℕ) (ss : List ℕ) → Below b ss → n < length ss → get_or ss n 0 < b
-below_at b n [] below inside = absurd (omega arith)
-below_at b zero (s ∷ ss) below inside = below.0
-below_at b (suc n) (s ∷ ss) below inside = below_at b n ss below.1 (omega arith)
+many : (ss : List ℕ) → ones_of ss ≡ 14 → 14 ≤ length ss
+unfolding ones_of
+many ss ones = omega (arith, front_le one_bit ss)
+
+pub ones_long : (list : List ℤ) → ones_of (map symbol_of list) ≡ 14 → 14 ≤ length list
+ones_long list ones = rw length-map at (many (map symbol_of list) ones)
+
+one_there : (ss : List ℕ) (n : ℕ) → ones_of ss ≡ 14 → n < 14 → get_or ss n 0 < 2
+unfolding ones_of
+one_there ss n ones more = ltb-true (get_or ss n 0) 2 (front_passes one_bit ss n 0 (omega arith))
 
 pub record Weighing (ss : List ℕ) (sum weight n : ℕ) : Type 0 where
   pub within : n ≤ 14
@@ -115,14 +108,14 @@ weighing_start ss = record { within = omega arith; half = λ more. refl; light =
 half_power : (m : ℕ) → 2 ^ suc m / 2 ≡ 2 ^ m
 half_power m = omega (arith, pow-succ' 2 m)
 
-pub weighing_turn : {ss : List ℕ} {sum weight n : ℕ} → Weighing ss sum weight n → 14 ≤ length ss → Below 2 (take 14 ss) → n < 14
+pub weighing_turn : {ss : List ℕ} {sum weight n : ℕ} → Weighing ss sum weight n → ones_of ss ≡ 14 → n < 14
     → (one : ℕ) → one ≡ cond (eqb (get_or ss n 0 % 2) 1) (65536 + weight) 0 → one ≤ 65536 + weight → Weighing ss (sum + one) (weight / 2) (n + 1)
-weighing_turn {ss} {sum} {weight} {n} w long below more one is light =
+weighing_turn {ss} {sum} {weight} {n} w ones more one is light =
     let m = 13 - n in
     let next : 14 - n ≡ suc m = omega arith in
     let after : 14 - suc n ≡ m = omega arith in
     let s = get_or ss n 0 in
-    let few : s < 2 = omega (arith, get_or-take 14 ss n 0 more, below_at 2 n (take 14 ss) below (rw length-take (omega arith))) in
+    let few : s < 2 = one_there ss n ones more in
     let digit : pack 2 (suc m) (drop n ss) ≡ s * 2 ^ m + pack 2 m (drop (suc n) ss) = pack-more 2 m ss n in
     let wide : width_of (take (suc m) (drop n ss)) ≡ s + width_of (take m (drop (suc n) ss)) = width-more m ss n (omega arith) in
     let before : sum + weight_of (suc m) (drop n ss) ≡ weight_of 14 ss = rw next at w.weighed in
@@ -167,23 +160,24 @@ all_there zero ss long below all = omega arith
 all_there (suc n) [] long below all = absurd (omega arith)
 all_there (suc n) (s ∷ ss) long below all =
     let bytes = bytes-symbol s (omega (arith, below.0)) in
-    let few : width_of (take n ss) ≤ n = omega (arith, width_le 1 (take n ss) (omega arith) below.1, length-take n ss) in
+    let few : width_of (take n ss) ≤ n = omega (arith, width_le 1 (take n ss) below.1, length-take n ss) in
     rw (eq-eqb 1 s (omega (arith, below.0))) (omega (arith, all_there n ss (omega arith) below.1 (omega (arith, below.0))))
-
-one-bits : (n : ℕ) (ss : List ℕ) → n ≤ length ss → Below 2 (take n ss) → n ≤ front one_bit ss
-unfolding front
-one-bits zero ss long below = omega arith
-one-bits (suc n) [] long below = absurd (omega arith)
-one-bits (suc n) (s ∷ ss) long below = rw (lt-ltb s 2 below.0) (omega (arith, one-bits n ss (omega arith) below.1))
 
 head_is : (k : ℕ) (ss : List ℕ) → zero < front (eqb k) ss → k ≡ get_or ss 0 0
 unfolding front
 head_is k [] some = absurd (omega arith)
 head_is k (s ∷ ss) some = by_test (eqb k s) (λ e. eqb-true k s e) (λ e. absurd (let none : zero < 0 = rw e at some in omega arith))
 
-module _ (ss : List ℕ) (long : 14 ≤ length ss) (below : Below 2 (take 14 ss)) (sum : ℕ) (is : sum ≡ weight_of 14 ss) where
+module _ (ss : List ℕ) (ones : ones_of ss ≡ 14) (sum : ℕ) (is : sum ≡ weight_of 14 ss) where
+  long : 14 ≤ length ss
+  long = many ss ones
+
+  below : Below 2 (take 14 ss)
+  unfolding ones_of
+  below = front-ones 14 ss (omega arith)
+
   light : width_of (take 14 ss) ≤ 14
-  light = omega (arith, width_le 1 (take 14 ss) (omega arith) below, length-take 14 ss)
+  light = omega (arith, width_le 1 (take 14 ss) below, length-take 14 ss)
 
   digits : pack 2 14 ss < 16384
   digits = rw (pack-take 2 14 ss) (pack_lt 2 (omega arith) 14 (take 14 ss) below)
@@ -220,17 +214,16 @@ module _ (ss : List ℕ) (long : 14 ≤ length ss) (below : Below 2 (take 14 ss)
   unfolding vector_of run_of ones_of
   plain-one differ =
       let h = get_or ss 0 0 in
-      let small : h < 2 = omega (arith, get_or-take 14 ss 0 0 (omega arith), below_at 2 0 (take 14 ss) below (rw length-take (omega arith))) in
+      let small : h < 2 = one_there ss 0 ones (omega arith) in
       let short : front (eqb h) ss < 14 =
       by_test (leb 14 (front (eqb h) ss))
       (λ e.
       let same = ap width_of (front-run h 14 ss (leb-true 14 (front (eqb h) ss) e)) ∙ width-run 14 h (omega arith) in
       absurd (differ (omega (arith, same, width_is))))
       (λ e. leb-false 14 (front (eqb h) ss) e) in
-      let ones : ones_of ss ≡ 14 = omega (arith, one-bits 14 ss long below) in
       let one : is_one (ones_of ss) (length ss) ≡ true = rw (eq-eqb (ones_of ss) 14 ones) in
       let chunk : runs_end + sum % 65536 ≡ runs_end + pack 2 14 ss = omega (arith, digits) in
-      let count : 14 ≡ min 14 (length ss) = omega arith in
+      let count : 14 ≡ min 14 (length ss) = omega (arith, long) in
       let width = width_is in
       let vector : ◌≡◌ {A = Picked} (record { chunk = runs_end + sum % 65536; count = 14; width = sum / 65536 }) (vector_of 2 14 runs_end ss) = cc in
       vector ∙ picks_one ss (run_of ss) (ones_of ss) refl refl (fewer_run (run_of ss) (ones_of ss) (omega arith)) one

@@ -6,7 +6,6 @@ pub mod Packing
 pub mod Choosing
 pub mod Sevens
 pub mod Fourteen
-pub mod Ranging
 pub mod Stepping
 pub mod Planning
 pub mod Unique

@@ -4,7 +4,7 @@ use Prim.Native.Nat.{ℕ, zero, suc, ◌+◌, ◌*◌, ◌-◌, ◌/◌, ◌≤�
 use mathlib.Core.Path.{◌≡◌, refl, sym, ap, ap₂, ◌∙◌}
 use mathlib.Core.Logic.{◌⊎◌, inl, inr, ⊎_elim}
 use mathlib.Core.List.{List, [], ◌∷◌, map}
-use mathlib.Core.Option.{Option, none, some}
+use Rattle.std.specs.Prelude.{Option, Some, None}
 use mathlib.Core.Bool.{Bool, true, false, ◌&&◌, ◌||◌, false≢true}
 use native.Mathlib.Omega.{arith}
 use native.Mathlib.Nat.{le_of_suc-le-suc}
@@ -12,7 +12,7 @@ use borrow.Author.Tests.{ltb-true, ltb-false, leb-true, leb-false, eqb-true, le-
 use lib.Dec.{ltb, leb, eqb}
 use lib.ListN.{length, take, drop, replicate, length-take, length-drop, length-replicate}
 use lib.Seq.{drop-nil, take_all, take-add, take-nil}
-use Rattle.twcc.specs.Words.{width_of}
+use Rattle.twcc.specs.Words.{bytes_of, width_of}
 use Rattle.octets.specs.Bounds.{Below}
 use Rattle.twcc.specs.Chunks.{Chunk, Run, One, Two, chunk_word, stands_for}
 use Rattle.twcc.proofs.Stands.{pad_to, length-pad_to, pack_lt, run-back, one-back, two_back}
@@ -51,7 +51,7 @@ front-run s (suc n) (x ∷ xs) run =
     (λ e. ap₂ ◌∷◌ (sym (eqb-true s x e)) (front-run s n xs (le_of_suc-le-suc (rw e at run))))
     (λ e. absurd (let z : suc n ≤ 0 = rw e at run in omega arith))
 
-front-ones : (n : ℕ) (ss : List ℕ) → min n (length ss) ≤ front one_bit ss → Below 2 (take n ss)
+pub front-ones : (n : ℕ) (ss : List ℕ) → min n (length ss) ≤ front one_bit ss → Below 2 (take n ss)
 unfolding front
 front-ones zero ss ones = tt
 front-ones (suc n) [] ones = tt
@@ -67,10 +67,17 @@ unfolding width_of
 width-run zero s known = omega arith
 width-run (suc n) s known = omega (arith, bytes-symbol s known, width-run n s known)
 
-pub width_le : (m : ℕ) (ss : List ℕ) → m ≤ 2 → Below (suc m) ss → width_of ss ≤ m * length ss
+bytes_le : (s : ℕ) → bytes_of s ≤ s
+unfolding bytes_of
+bytes_le zero = omega arith
+bytes_le (suc zero) = omega arith
+bytes_le (suc (suc zero)) = omega arith
+bytes_le (suc (suc (suc s))) = omega arith
+
+pub width_le : (m : ℕ) (ss : List ℕ) → Below (suc m) ss → width_of ss ≤ m * length ss
 unfolding width_of
-width_le m [] known below = omega arith
-width_le m (s ∷ ss) known below = omega (arith, bytes-symbol s (omega arith), width_le m ss known below.1)
+width_le m [] below = omega arith
+width_le m (s ∷ ss) below = omega (arith, bytes_le s, width_le m ss below.1)
 
 -- ---- one chunk
 
@@ -113,8 +120,8 @@ good_width ss (Run zero r) below good = omega arith
 good_width ss (Run (suc zero) r) below good = omega arith
 good_width ss (Run (suc (suc zero)) r) below good = omega arith
 good_width ss (Run (suc (suc (suc s))) r) below good = absurd (omega arith)
-good_width ss (One xs) below good = omega (arith, width_le 1 xs (omega arith) good.2)
-good_width ss (Two xs) below good = width_le 2 xs (omega arith) (rw good.1 (below_take 3 7 ss below))
+good_width ss (One xs) below good = omega (arith, width_le 1 xs good.2)
+good_width ss (Two xs) below good = width_le 2 xs (rw good.1 (below_take 3 7 ss below))
 
 -- What a chunk stands for and the symbols agree as far as both go, and that is what the chunk takes.
 pub record Agrees (ss : List ℕ) (c : Chunk) : Type 0 where
@@ -170,8 +177,8 @@ chunk_lt ss (Two xs) below good = omega (arith, pack_lt 4 (omega arith) 7 xs (be
 -- ---- one step
 
 abbrev pub StepLaw : Option ℕ → ℕ → List ℕ → Option Chunk → Type 0
-StepLaw limit used ss none = Unit {0}
-StepLaw limit used ss (some c) = Good ss c × Within limit (size_with used c)
+StepLaw limit used ss None = Unit {0}
+StepLaw limit used ss (Some c) = Good ss c × Within limit (size_with used c)
 
 -- a shortened run keeps within the limit
 short-one : (used r limit : ℕ) → limit < up_four (used + 2 + 1 * r) → up_four (up_four (used + 2 + 1 * r) - limit) / 1 < r
@@ -182,7 +189,7 @@ short-two : (used r limit : ℕ) → limit < up_four (used + 2 + 2 * r) → up_f
     → up_four (used + 2 + 2 * (r - up_four (up_four (used + 2 + 2 * r) - limit) / 2)) ≤ limit
 short-two used r limit over few = omega arith
 
-shorten_law : (limit used : ℕ) (ss : List ℕ) (c : Chunk) → Good ss c → limit < size_with used c → StepLaw (some limit) used ss (shorten (size_with used c - limit) c)
+shorten_law : (limit used : ℕ) (ss : List ℕ) (c : Chunk) → Good ss c → limit < size_with used c → StepLaw (Some limit) used ss (shorten (size_with used c - limit) c)
 unfolding shorten width_by
 shorten_law limit used ss (Run zero r) good over = tt
 shorten_law limit used ss (Run (suc zero) r) good over =
@@ -201,8 +208,8 @@ shorten_law limit used ss (Two xs) good over = tt
 
 fitted_law : (limit : Option ℕ) (used : ℕ) (ss : List ℕ) (c : Chunk) → Good ss c → StepLaw limit used ss (fitted limit used c)
 unfolding fitted
-fitted_law none used ss c good = (good, tt)
-fitted_law (some limit) used ss c good =
+fitted_law None used ss c good = (good, tt)
+fitted_law (Some limit) used ss c good =
     by_test (ltb limit (size_with used c))
     (λ e. rw e (shorten_law limit used ss c good (ltb-true limit (size_with used c) e)))
     (λ e. rw e (good, ltb-false limit (size_with used c) e))
@@ -214,12 +221,12 @@ next_law limit used taken ss below there = fitted_law limit used ss (chunk_for s
 -- ---- the first step, where the limit is absent or at least 24
 
 pub wide-eight : (limit : Option ℕ) → Wide limit → Within limit 8
-wide-eight none wide = tt
-wide-eight (some limit) wide = omega arith
+wide-eight None wide = tt
+wide-eight (Some limit) wide = omega arith
 
 abbrev IsTaken : Option Chunk → Type 0
-IsTaken none = ⊥
-IsTaken (some c) = Unit {0}
+IsTaken None = ⊥
+IsTaken (Some c) = Unit {0}
 
 first_short : (limit : ℕ) (ss : List ℕ) (c : Chunk) → 24 ≤ limit → Below 3 ss → Good ss c → limit < size_with 8 c → IsTaken (shorten (size_with 8 c - limit) c)
 unfolding shorten width_by
@@ -227,14 +234,14 @@ first_short limit ss (Run zero r) wide below good over = omega arith
 first_short limit ss (Run (suc zero) r) wide below good over = rw (le-ltb (r - 1) (up_four (up_four (10 + 1 * r) - limit) / 1) (omega arith)) tt
 first_short limit ss (Run (suc (suc zero)) r) wide below good over = rw (le-ltb (r - 1) (up_four (up_four (10 + 2 * r) - limit) / 2) (omega arith)) tt
 first_short limit ss (Run (suc (suc (suc s))) r) wide below good over = absurd (omega arith)
-first_short limit ss (One xs) wide below good over = omega (arith, width_le 1 xs (omega arith) good.2, ap length good.1 ∙ length-take 14 ss)
+first_short limit ss (One xs) wide below good over = omega (arith, width_le 1 xs good.2, ap length good.1 ∙ length-take 14 ss)
 first_short limit ss (Two xs) wide below good over =
-    omega (arith, width_le 2 xs (omega arith) (rw good.1 (below_take 3 7 ss below)), ap length good.1 ∙ length-take 7 ss)
+    omega (arith, width_le 2 xs (rw good.1 (below_take 3 7 ss below)), ap length good.1 ∙ length-take 7 ss)
 
 first-fitted : (limit : Option ℕ) (ss : List ℕ) (c : Chunk) → Wide limit → Below 3 ss → Good ss c → IsTaken (fitted limit 8 c)
 unfolding fitted
-first-fitted none ss c wide below good = tt
-first-fitted (some limit) ss c wide below good =
+first-fitted None ss c wide below good = tt
+first-fitted (Some limit) ss c wide below good =
     by_test (ltb limit (size_with 8 c)) (λ e. rw e (first_short limit ss c wide below good (ltb-true limit (size_with 8 c) e))) (λ e. rw e tt)
 
 first_taken : (limit : Option ℕ) (ss : List ℕ) → Wide limit → Below 3 ss → zero < length ss → IsTaken (next limit 8 0 ss)
@@ -251,8 +258,8 @@ more-planned : (limit : Option ℕ) (used : ℕ) (ss : List ℕ) (rest : Chunk �
     → ((c : Chunk) → Good ss c → Within limit (size_with used c) → Planned limit (used + 2 + width_by c) (rest c) (drop (taken_by c) ss))
     → Planned limit used (more o rest) ss
 unfolding more
-more-planned limit used ss rest none law within go = within
-more-planned limit used ss rest (some c) law within go = (law.0, go c law.0 law.1)
+more-planned limit used ss rest None law within go = within
+more-planned limit used ss rest (Some c) law within go = (law.0, go c law.0 law.1)
 
 pub plan-planned : (limit : Option ℕ) (skip used taken : ℕ) (ss : List ℕ) → Below 3 ss → Within limit (up_four used) → Planned limit used (plan limit skip used taken ss) (drop skip ss)
 unfolding plan
@@ -265,7 +272,7 @@ plan-planned limit zero used taken (s ∷ ss) below within =
 plan-planned limit (suc skip) used taken (s ∷ ss) below within = plan-planned limit skip used taken ss below.1 within
 
 -- a plan within a limit is one without
-pub planned_free : (limit : Option ℕ) (used : ℕ) (cs : List Chunk) (ss : List ℕ) → Planned limit used cs ss → Planned none used cs ss
+pub planned_free : (limit : Option ℕ) (used : ℕ) (cs : List Chunk) (ss : List ℕ) → Planned limit used cs ss → Planned None used cs ss
 planned_free limit used [] ss planned = tt
 planned_free limit used (c ∷ cs) ss planned = (planned.0, planned_free limit (used + 2 + width_by c) cs (drop (taken_by c) ss) planned.1)
 
@@ -280,17 +287,17 @@ pub plan_end : (limit : Option ℕ) (used taken : ℕ) → plan limit 0 used tak
 unfolding plan
 plan_end limit used taken = refl
 
-pub plan_stop : (limit : Option ℕ) (used taken : ℕ) (ss : List ℕ) → next limit used taken ss ≡ none → plan limit 0 used taken ss ≡ []
+pub plan_stop : (limit : Option ℕ) (used taken : ℕ) (ss : List ℕ) → next limit used taken ss ≡ None → plan limit 0 used taken ss ≡ []
 unfolding plan more
 plan_stop limit used taken [] stops = refl
 plan_stop limit used taken (s ∷ ss) stops = rw stops
 
-pub plan_go : (limit : Option ℕ) (used taken : ℕ) (ss : List ℕ) (c : Chunk) → Below 3 ss → zero < length ss → next limit used taken ss ≡ some c
+pub plan_go : (limit : Option ℕ) (used taken : ℕ) (ss : List ℕ) (c : Chunk) → Below 3 ss → zero < length ss → next limit used taken ss ≡ Some c
     → plan limit 0 used taken ss ≡ c ∷ plan limit 0 (used + 2 + width_by c) (taken + taken_by c) (drop (taken_by c) ss)
 unfolding plan more
 plan_go limit used taken [] c below there takes = absurd (omega arith)
 plan_go limit used taken (s ∷ ss) c below there takes =
-    let law : StepLaw limit used (s ∷ ss) (some c) = rw takes at (next_law limit used taken (s ∷ ss) below there) in
+    let law : StepLaw limit used (s ∷ ss) (Some c) = rw takes at (next_law limit used taken (s ∷ ss) below there) in
     let n = (good_taken (s ∷ ss) c law.0).0 in
     rw takes
     (ap (λ (cs : List Chunk). c ∷ cs)
@@ -361,8 +368,8 @@ planned-within limit used (c ∷ cs) ss planned = planned-within limit (used + 2
 
 more-takes : (limit : Option ℕ) (used : ℕ) (ss : List ℕ) (rest : Chunk → List Chunk) (o : Option Chunk) → StepLaw limit used ss o → IsTaken o → zero < taken_in (more o rest)
 unfolding more taken_in
-more-takes limit used ss rest none law taken = absurd taken
-more-takes limit used ss rest (some c) law taken = omega (arith, (good_taken ss c law.0).0)
+more-takes limit used ss rest None law taken = absurd taken
+more-takes limit used ss rest (Some c) law taken = omega (arith, (good_taken ss c law.0).0)
 
 pub plan-takes : (limit : Option ℕ) (ss : List ℕ) → Wide limit → Below 3 ss → zero < length ss → zero < taken_in (plan limit 0 8 0 ss)
 unfolding plan

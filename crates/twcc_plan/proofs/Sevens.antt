@@ -8,6 +8,8 @@ use native.Mathlib.Nat.{sub-zero}
 use native.Mathlib.Omega.{arith}
 use borrow.Author.Tests.{ltb-true, ltb-false, leb-true, leb-false, eqb-true, lt-ltb, le-ltb, le-leb, lt-leb, eq-eqb, ne_eqb}
 use lib.Dec.{ltb, leb, eqb}
+use Rattle.std.specs.Prelude.{Some, None}
+use Rattle.std.proofs.lemmas.Option.{none-some}
 use lib.ListN.{length, get_or, take, drop, replicate}
 use Rattle.octets.specs.Bounds.{Below}
 use Rattle.twcc.specs.Chunks.{ones_end, longest_run, pack, unpack}
@@ -90,6 +92,10 @@ fewer_run r b more = rw (lt-leb b r more) (and_false (ltb 7 r))
 no_one : (b left : ℕ) → b < 14 → b < left → is_one b left ≡ false
 no_one b left few more = rw (ne_eqb b 14 (λ e. omega arith), ne_eqb b left (λ e. omega arith)) (and_false (ltb 7 b))
 
+pub settled_none : (ss : List ℕ) → Settles ss None → is_run (run_of ss) (ones_of ss) ≡ false
+settled_none ss settles =
+    by_test (is_run (run_of ss) (ones_of ss)) (λ e. absurd (none-some (run_of ss) (rw e at settles))) (λ e. e)
+
 -- ---- whether seven are equal
 
 pack-run : (h : ℕ) → pack 4 7 (replicate 7 h) ≡ h * 5461
@@ -106,7 +112,7 @@ first-digit [] below there = absurd (omega arith)
 first-digit (h ∷ rest) below there = let few = pack_lt 4 (omega arith) 6 rest (below_four rest below.1) in (omega arith, omega (arith, below.0))
 
 -- seven that are not make no run
-pub unlike : (ss : List ℕ) → Below 3 ss → zero < length ss → (pack 4 7 ss ≡ pack 4 7 ss / 4096 * 5461 → ⊥) → Settles ss 0
+pub unlike : (ss : List ℕ) → Below 3 ss → zero < length ss → (pack 4 7 ss ≡ pack 4 7 ss / 4096 * 5461 → ⊥) → Settles ss None
 unfolding run_of
 unlike ss below there differs =
     let h = get_or ss 0 0 in
@@ -117,7 +123,7 @@ unlike ss below there differs =
     let packed : pack 4 7 ss ≡ h * 5461 = pack-take 4 7 ss ∙ ap (pack 4 7) run ∙ pack-run h in
     absurd (differs (omega (arith, packed, first-digit ss below there))))
     (λ e. leb-false 7 (front (eqb h) ss) e) in
-    record { none = λ e. no_run (run_of ss) (ones_of ss) (omega arith); some = λ e. absurd (omega arith) }
+    rw (no_run (run_of ss) (ones_of ss) (omega arith))
 
 unpack-run : (h : ℕ) → h ≤ 2 → unpack 4 7 (h * 5461) ≡ replicate 7 h
 unfolding unpack
@@ -150,13 +156,15 @@ module _ (ss : List ℕ) (long : 14 ≤ length ss) (first : ℕ) (a : Alike ss f
   unfolding run_of
   run_is = rw (← a.stands) is
 
-  pub long_settles : 13 < r → Settles ss r
-  unfolding ones_of
-  long_settles more =
-      record { none = λ e. absurd (omega arith); some = λ e. (yes_run (run_of ss) (ones_of ss) (omega (arith, run_is)) (omega (arith, run_is)), run_is) }
+  makes_chunk : 7 < r → ones_of ss ≤ r → Settles ss (Some r)
+  makes_chunk more few = rw (yes_run (run_of ss) (ones_of ss) (omega (arith, run_is)) (omega (arith, run_is)), run_is)
 
-  pub seven_settles : r ≡ 7 → Settles ss 0
-  seven_settles seven = record { none = λ e. no_run (run_of ss) (ones_of ss) (omega (arith, run_is)); some = λ e. absurd (omega arith) }
+  pub long_settles : 13 < r → Settles ss (Some r)
+  unfolding ones_of
+  long_settles more = makes_chunk (omega arith) (omega arith)
+
+  pub seven_settles : r ≤ 7 → Settles ss None
+  seven_settles seven = rw (no_run (run_of ss) (ones_of ss) (omega (arith, run_is)))
 
   module _ (short : r ≤ 13) (s : ℕ) (behind : s ≡ get_or ss r 0) where
     whole : front (eqb first) ss ≡ r
@@ -168,17 +176,13 @@ module _ (ss : List ℕ) (long : 14 ≤ length ss) (first : ℕ) (a : Alike ss f
         let more = front_mono (eqb first) one_bit (λ x e. lt-ltb x 2 (omega (arith, eqb-true first x e))) ss in
         front_skip one_bit r ss (omega (arith, more, whole))
 
-    pub bits_settle : first + s < 2 → Settles ss 0
+    pub bits_settle : first + s < 2 → Settles ss None
     unfolding ones_of
     bits_settle bits =
         let next = front_yes one_bit ss r 0 (omega arith) (lt-ltb (get_or ss r 0) 2 (omega arith)) in
-        record { none = λ e. fewer_run (run_of ss) (ones_of ss) (omega (arith, run_is, ones (omega arith), next)); some = λ e. absurd (omega arith) }
+        rw (fewer_run (run_of ss) (ones_of ss) (omega (arith, run_is, ones (omega arith), next)))
 
-    run_settles : ones_of ss ≤ r → (r ≡ 7 → ⊥) → Settles ss r
-    run_settles few more =
-        record { none = λ e. absurd (omega (arith, a.seven)); some = λ e. (yes_run (run_of ss) (ones_of ss) (omega (arith, run_is, a.seven, more)) (omega (arith, run_is)), run_is) }
-
-    pub two_settles : (r ≡ 7 → ⊥) → 2 ≤ first + s → Settles ss r
+    pub two_settles : 7 < r → 2 ≤ first + s → Settles ss (Some r)
     unfolding ones_of
     two_settles more two =
         by_test (ltb first 2)
@@ -187,10 +191,10 @@ module _ (ss : List ℕ) (long : 14 ≤ length ss) (first : ℕ) (a : Alike ss f
         let other = front_stops (eqb first) ss r 0 whole (omega arith) in
         let apart : s ≡ first → ⊥ = λ same. let z : true ≡ false = sym (eq-eqb first (get_or ss r 0) (omega arith)) ∙ other in absurd (true≢false z) in
         let none = front-no one_bit ss r 0 (omega arith) (le-ltb (get_or ss r 0) 2 (omega (arith, apart))) in
-        run_settles (omega (arith, ones bit, none)) more)
+        makes_chunk more (omega (arith, ones bit, none)))
         (λ e.
         let none = front-no one_bit ss 0 0 (omega arith) (le-ltb (get_or ss 0 0) 2 (omega (arith, ltb-false first 2 e, a.stands))) in
-        run_settles (omega (arith, none)) more)
+        makes_chunk more (omega (arith, none)))
 
 -- ---- a 2 among the first fourteen
 

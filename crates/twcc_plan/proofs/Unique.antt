@@ -2,7 +2,7 @@
 use Prim.Native.Nat.{ℕ}
 use mathlib.Core.Path.{◌≡◌, sym, ap, ◌∙◌}
 use mathlib.Core.List.{List}
-use mathlib.Core.Option.{Option}
+use Rattle.std.specs.Prelude.{Option}
 use lib.IntN.{ℤ}
 use Rattle.twcc_plan.specs.Limits.{up_four}
 use Rattle.twcc_plan.specs.Block.{first_bad}

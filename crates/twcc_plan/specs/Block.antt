@@ -1,6 +1,5 @@
 -- The bytes of a block that is written: header, chunks, delta bytes, zeros to a multiple of four (the draft, 3.1).
-use Rattle.std.specs.Prelude.{ℕ, ◌+◌, ◌-◌, List, ◌++◌, map, Bool, ltb, leb, ℤ, pos, negsuc, length, take}
-use Rattle.std.proofs.Math.Option.{Option}
+use Rattle.std.specs.Prelude.{ℕ, ◌+◌, ◌-◌, List, ◌++◌, map, Bool, ltb, leb, ℤ, pos, negsuc, length, take, Option}
 use Rattle.octets.specs.Big.{be_bytes}
 use Rattle.lent.specs.Bytes.{zero_bytes}
 use Rattle.twcc.specs.Time.{time_bits}

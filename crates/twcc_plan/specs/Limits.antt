@@ -1,25 +1,17 @@
 -- A size limit, and the step rule: what a limit makes of the chunk that was picked (docs/RULES.md, TWCC writing).
-use Rattle.std.specs.Prelude.{ℕ, zero, suc, ◌+◌, ◌*◌, ◌-◌, ◌/◌, ◌≤◌, List, cond, ltb}
-use Rattle.std.proofs.Math.Option.{Option, none, some}
+use Rattle.std.specs.Prelude.{ℕ, zero, suc, ◌+◌, ◌*◌, ◌-◌, ◌/◌, ◌≤◌, List, cond, ltb, Option, Some, None}
 use Rattle.twcc.specs.Chunks.{Chunk, Run, One, Two}
 use Rattle.twcc_plan.specs.Choice.{chunk_for, width_by}
-use Rattle.twcc_plan.specs.declared.Limit.{Limit}
-use Rattle.twcc_plan.specs.declared.Limit.TheVariants.{Absent, Bytes}
-
--- a limit as the definitions have it
-abbrev pub limit_of : Limit → Option ℕ
-limit_of Absent = none
-limit_of (Bytes bytes) = some bytes
 
 -- so many bytes keep within a limit
 abbrev pub Within : Option ℕ → ℕ → Type 0
-Within none n = Unit {0}
-Within (some limit) n = n ≤ limit
+Within None n = Unit {0}
+Within (Some limit) n = n ≤ limit
 
 -- a limit under which every block takes an entry
 abbrev pub Wide : Option ℕ → Type 0
-Wide none = Unit {0}
-Wide (some limit) = 24 ≤ limit
+Wide None = Unit {0}
+Wide (Some limit) = 24 ≤ limit
 
 abbrev pub up_four : ℕ → ℕ
 up_four n = (n + 3) / 4 * 4
@@ -31,14 +23,14 @@ size_with used c = up_four (used + 2 + width_by c)
 -- a received run that is `over` bytes too long is shortened by v = up_four over / (bytes per delta); writing stops if
 -- v > r − 1, or for any other chunk
 unfoldable pub shorten : ℕ → Chunk → Option Chunk
-shorten over (Run zero r) = none
-shorten over (Run (suc s) r) = cond (ltb (r - 1) (up_four over / suc s)) none (some (Run (suc s) (r - up_four over / suc s)))
-shorten over (One ss) = none
-shorten over (Two ss) = none
+shorten over (Run zero r) = None
+shorten over (Run (suc s) r) = cond (ltb (r - 1) (up_four over / suc s)) None (Some (Run (suc s) (r - up_four over / suc s)))
+shorten over (One ss) = None
+shorten over (Two ss) = None
 
 unfoldable pub fitted : Option ℕ → ℕ → Chunk → Option Chunk
-fitted none used c = some c
-fitted (some limit) used c = cond (ltb limit (size_with used c)) (shorten (size_with used c - limit) c) (some c)
+fitted None used c = Some c
+fitted (Some limit) used c = cond (ltb limit (size_with used c)) (shorten (size_with used c - limit) c) (Some c)
 
 -- the next chunk of a block with so many bytes used and entries taken, before these symbols; none where writing stops.
 -- A list never has more entries than a status count can state, so the entries taken stop nothing.

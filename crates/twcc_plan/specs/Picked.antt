@@ -1,7 +1,7 @@
 -- A chunk as the code holds it.
-use Rattle.std.specs.Prelude.{ℕ, ◌+◌, ◌*◌, ◌/◌, ◌^◌, ◌≤◌, ◌<◌, min, ◌≡◌, List, [], ◌∷◌, true, false, eqb, length, get_or, take}
+use Rattle.std.specs.Prelude.{ℕ, ◌+◌, ◌*◌, ◌/◌, ◌^◌, ◌≤◌, min, ◌≡◌, List, [], ◌∷◌, cond, eqb, length, get_or, take, Option, Some, None}
 use Rattle.twcc.specs.Words.{width_of}
-use Rattle.twcc.specs.Chunks.{run_weight, ones_end, Chunk, pack, chunk_word}
+use Rattle.twcc.specs.Chunks.{run_weight, ones_end, longest_run, Chunk, pack, chunk_word}
 use Rattle.twcc_plan.specs.Front.{front}
 use Rattle.twcc_plan.specs.Choice.{run_of, ones_of, is_run, taken_by, width_by}
 use Rattle.twcc_plan.specs.declared.pick.Picked.{Picked}
@@ -43,13 +43,17 @@ run_picked s r = record { chunk = s * run_weight + r; count = r; width = s * r }
 abbrev pub weight_of : ℕ → List ℕ → ℕ
 weight_of n ss = 65536 * width_of (take n ss) + pack 2 n ss
 
+-- how far a run goes at least
+pub record Known (ss : List ℕ) (symbol from : ℕ) : Type 0 where
+  pub within : from ≤ min longest_run (length ss)
+  pub run : from ≤ front (eqb symbol) ss
+
 -- the first symbol, which seven have
 pub record Alike (ss : List ℕ) (first : ℕ) : Type 0 where
   pub known : first ≤ 2
   pub stands : first ≡ get_or ss 0 0
   pub seven : 7 ≤ front (eqb first) ss
 
--- a run that makes a chunk, or 0 where none does
-pub record Settles (ss : List ℕ) (r : ℕ) : Type 0 where
-  pub none : r ≡ 0 → is_run (run_of ss) (ones_of ss) ≡ false
-  pub some : 0 < r → (is_run (run_of ss) (ones_of ss) ≡ true) × (r ≡ run_of ss)
+-- a run that makes a chunk, if there is one
+abbrev pub Settles : List ℕ → Option ℕ → Type 0
+Settles ss r = r ≡ cond (is_run (run_of ss) (ones_of ss)) (Some (run_of ss)) None

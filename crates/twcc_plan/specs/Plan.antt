@@ -1,13 +1,12 @@
 -- The chunks of a block: step after step until a step stops or nothing remains.
-use Rattle.std.specs.Prelude.{ℕ, zero, suc, ◌+◌, pred, List, [], ◌∷◌}
-use Rattle.std.proofs.Math.Option.{Option, none, some}
+use Rattle.std.specs.Prelude.{ℕ, zero, suc, ◌+◌, pred, List, [], ◌∷◌, Option, Some, None}
 use Rattle.twcc.specs.Chunks.{Chunk}
 use Rattle.twcc_plan.specs.Choice.{taken_by, width_by}
 use Rattle.twcc_plan.specs.Limits.{next}
 
 unfoldable pub more : Option Chunk → (Chunk → List Chunk) → List Chunk
-more none rest = []
-more (some c) rest = c ∷ rest c
+more None rest = []
+more (Some c) rest = c ∷ rest c
 
 -- from so many bytes used and entries taken on, once `skip` symbols are passed over: those of the chunk before
 unfoldable pub plan : Option ℕ → ℕ → ℕ → ℕ → List ℕ → List Chunk

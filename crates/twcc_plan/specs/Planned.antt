@@ -1,6 +1,5 @@
 -- What is known of the chunks of a plan: all that the code that writes a block asks of them.
-use Rattle.std.specs.Prelude.{ℕ, zero, ◌+◌, ◌≤◌, ◌<◌, ◌≡◌, List, [], ◌∷◌, eqb, length, take, drop}
-use Rattle.std.proofs.Math.Option.{Option}
+use Rattle.std.specs.Prelude.{ℕ, zero, ◌+◌, ◌≤◌, ◌<◌, ◌≡◌, List, [], ◌∷◌, eqb, length, take, drop, Option}
 use Rattle.octets.specs.Bounds.{Below}
 use Rattle.twcc.specs.Chunks.{longest_run, Chunk, Run, One, Two}
 use Rattle.twcc_plan.specs.Front.{front}

@@ -1,6 +1,5 @@
 -- What planning promises of its answer and of the whole buffer.
-use Rattle.std.specs.Prelude.{ℕ, ◌+◌, ◌*◌, ◌≤◌, ◌≡◌, List, map, ℤ, length}
-use Rattle.std.proofs.Math.Option.{Option}
+use Rattle.std.specs.Prelude.{ℕ, ◌+◌, ◌*◌, ◌≤◌, ◌≡◌, List, map, ℤ, length, Option}
 use Rattle.std.proofs.lemmas.List.Edits.{sets}
 use Rattle.twcc.specs.Chunks.{chunk_word, chunk_bytes}
 use Rattle.twcc_plan.specs.Limits.{up_four}

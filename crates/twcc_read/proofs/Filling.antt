@@ -1,149 +1,78 @@
--- Filling a list with status words: the words still to come, set from here on, make the whole.
-use Prim.Native.Nat.{ℕ, ◌+◌, ◌-◌, ◌≤◌, ◌<◌, min}
+-- Filling a list with status words: so far the words are those of the first symbols.
+use Prim.Native.Nat.{ℕ, ◌+◌, ◌≤◌, ◌<◌}
 use mathlib.Core.Path.{◌≡◌, refl, sym, ap, ◌∙◌}
-use mathlib.Core.List.{List, [], ◌∷◌, ◌++◌, append-nil}
-use native.Mathlib.Nat.{add-zero, add_assoc}
+use mathlib.Core.List.{List, [], ◌∷◌, ◌++◌}
+use native.Mathlib.Nat.{add-zero}
 use native.Mathlib.Numerals.{add-one}
 use native.Mathlib.Omega.{arith}
-use lib.IntN.{ℤ}
-use lib.ListN.{length, get_or, take, drop, set, length-set, length-append, length-take, drop_of_length-le}
-use lib.Seq.{sets, length-sets, sets-eq, drop-cons, drop-drop, length-take-le}
-use Rattle.lent.proofs.Laws.{sets_append}
+use lib.IntN.{ℤ, pos}
+use lib.ListN.{length, get_or, take, drop, set, length-drop}
+use lib.Seq.{take-add, take-suc, take-suc-set, drop-drop, take_all}
+use mir.Syntax.{w32}
+use mir.Val.{SFits, to_z, of_z}
+use mir.ValLaws.{to_z-of_z}
 use Rattle.twcc.specs.Words.{bytes_of, width_of, word_of, entries}
-use Rattle.twcc.specs.Chunks.{stands_for}
-use Rattle.twcc.specs.Block.{symbols}
-use Rattle.twcc.proofs.Entries.{length-entries, entries-cons, entries-append, width-cons, width-append}
-use Rattle.twcc_cursors.specs.Cursors.{next_delta}
-use Rattle.twcc_cursors.specs.declared.Chunks.{Chunks}
-use Rattle.twcc_cursors.specs.declared.Delta.{Delta}
-use Rattle.twcc_cursors.proofs.Steps.{IsOver, IsTaken, drop_clamp}
-use Rattle.twcc_read.specs.Filled.{Filled, AllFilled}
+use Rattle.twcc.proofs.Entries.{entries-append, width-append}
+use Rattle.twcc_read.specs.Filled.{Filled}
 
--- words for every place
-pub sets_all : (out words : List ℤ) → length words ≡ length out → sets out 0 words ≡ words
-sets_all out words same =
-    let none : length out ≤ 0 + length words = omega arith in
-    sets-eq words out 0 (omega arith) ∙ rw (drop_of_length-le out none) (append-nil words)
+-- the first j places hold the words of the first j symbols, and the deltas go on p bytes on
+pub record Listing (bytes ss : List ℕ) (p j : ℕ) (list : List ℤ) : Type 0 where
+  pub words : take j list ≡ entries (take j ss) bytes
+  pub rest : drop p bytes ≡ drop (width_of (take j ss)) bytes
+  pub inside : p ≤ length bytes
 
--- the symbols `todo` are to come, with the deltas from d and the list from k on; in the end the list is `whole`, and
--- `rest` are the delta bytes left
-pub record Filling (s todo : List ℕ) (d k : ℕ) (list whole : List ℤ) (rest : List ℕ) (size : ℕ) : Type 0 where
-  pub words : sets list k (entries todo (drop d s)) ≡ whole
-  pub deltas : drop (width_of todo) (drop d s) ≡ rest
-  pub inside : d ≤ length s
-  pub same : length list ≡ size
+pub listing_start : (bytes ss : List ℕ) (p : ℕ) (list : List ℤ) → p ≡ 0 → Listing bytes ss p 0 list
+unfolding entries width_of
+listing_start bytes ss p list first = rw first (record { words = refl; rest = refl; inside = omega arith })
+
+-- the words of the symbols xs more
+listing_more : (xs : List ℕ) {bytes ss : List ℕ} {p p' j k : ℕ} {list new : List ℤ} → Listing bytes ss p j list → take k ss ≡ take j ss ++ xs
+    → take k new ≡ take j list ++ entries xs (drop p bytes) → drop p' bytes ≡ drop (width_of xs) (drop p bytes) → p' ≤ length bytes
+    → Listing bytes ss p' k new
+listing_more xs {bytes} {ss} {p} {p'} {j} {k} {list} {new} l symbols stored eaten inside =
+    record {
+      words = rw (stored, l.words, l.rest, symbols) (sym (entries-append (take j ss) xs bytes));
+      rest =
+          eaten
+          ∙ ap (λ (ds : List ℕ). drop (width_of xs) ds) l.rest
+          ∙ drop-drop (width_of xs) (width_of (take j ss)) bytes
+          ∙ rw (symbols, width-append) refl;
+      inside = inside;
+    }
+
+-- several entries, of a part of the list
+pub listing_part : (n : ℕ) {bytes ss xs : List ℕ} {p q p' j k : ℕ} {list new part : List ℤ} → Listing bytes ss p j list → xs ≡ take n (drop j ss)
+    → Filled (drop p bytes) xs q part → take k new ≡ take j list ++ part → p' ≡ p + q → k ≡ j + n → Listing bytes ss p' k new
+listing_part n {bytes} {ss} {xs} {p} {q} {p'} {j} {k} {list} {new} {part} l next filled written bytes_on places_on =
+    let symbols : take k ss ≡ take j ss ++ xs = rw (places_on, next) (take-add j n ss) in
+    let eaten : drop p' bytes ≡ drop (width_of xs) (drop p bytes) = rw bytes_on (sym (drop-drop q p bytes) ∙ filled.rest) in
+    listing_more xs l symbols (written ∙ rw filled.words refl) eaten (omega (arith, l.inside, filled.inside, length-drop p bytes))
 
 -- one entry
-filling_more : {s todo : List ℕ} {x d d' k : ℕ} {list whole : List ℤ} {rest : List ℕ} {size : ℕ}
-    → Filling s (x ∷ todo) d k list whole rest size → drop d' s ≡ drop (bytes_of x) (drop d s) → d' ≤ length s
-    → Filling s todo d' (k + 1) (set list k (word_of x (drop d s))) whole rest size
-filling_more {s} {todo} {x} {d} {d'} {k} {list} f next inside =
-    record {
-      words = rw (next, add-one) (rw entries-cons at f.words);
-      deltas = rw next (sym (width-cons x todo (drop d s)) ∙ f.deltas);
-      inside = inside;
-      same = length-set list k _ ∙ f.same;
-    }
-
--- several entries
-pub filling_part : {s xs todo : List ℕ} {d d' k n : ℕ} {list new whole : List ℤ} {rest : List ℕ} {size : ℕ}
-    → Filling s (xs ++ todo) d k list whole rest size → length xs ≡ n → Filled s xs d d' k list new
-    → Filling s todo d' (k + n) new whole rest size
-filling_part {s} {xs} {todo} {d} {d'} {k} {n} {list} {new} {whole} f count g =
-    let ds = drop d s in
-    let seam : k + n ≡ k + length (entries xs ds) = omega (arith, length-entries xs ds) in
-    let both : sets (sets list k (entries xs ds)) (k + n) (entries todo (drop (width_of xs) ds)) ≡ whole =
-    rw seam
-    (sets_append list k (entries xs ds) (entries todo (drop (width_of xs) ds))
-    ∙ ap (λ (l : List ℤ). sets list k l) (sym (entries-append xs todo ds))
-    ∙ f.words) in
-    record {
-      words = rw (g.list, g.deltas) both;
-      deltas = rw (g.deltas, drop-drop (width_of todo) (width_of xs) ds) (rw width-append at f.deltas);
-      inside = g.inside;
-      same = rw g.list (length-sets list k (entries xs ds) ∙ f.same);
-    }
-
--- ---- n symbols, from place k on; j of them are listed, and the deltas go on at d
-
-pub record EachFilling (s ss : List ℕ) (n from d k j : ℕ) (old list : List ℤ) : Type 0 where
-  pub fill : Filling s (drop j ss) d (k + j) list (sets old k (entries ss (drop from s))) (drop (width_of ss) (drop from s)) (length old)
-  pub all : length ss ≡ n
-  pub within : j ≤ n
-
-pub each_start : (s ss : List ℕ) (n from k : ℕ) (old : List ℤ) → length ss ≡ n → from ≤ length s → EachFilling s ss n from from k 0 old old
-each_start s ss n from k old all inside =
-    record {
-      fill = rw add-zero (record { words = refl; deltas = refl; inside = inside; same = refl });
-      all = all;
-      within = omega arith;
-    }
-
-each_more : {s ss : List ℕ} {n from d k j : ℕ} {old list : List ℤ} {x d' : ℕ} {word : ℤ} → EachFilling s ss n from d k j old list
-    → j < n → x ≡ get_or ss j 0 → word ≡ word_of x (drop d s) → drop d' s ≡ drop (bytes_of x) (drop d s) → d' ≤ length s
-    → EachFilling s ss n from d' k (j + 1) old (set list (k + j) word)
-each_more {s} {ss} {n} {from} {d} {k} {j} {old} {list} {x} t more symbol a_word next inside =
-    let there : j < length ss = omega (arith, t.all) in
-    let front : drop j ss ≡ x ∷ drop (j + 1) ss = rw (symbol, add-one) (drop-cons ss j 0 there) in
-    record {
-      fill = rw (a_word, ← add_assoc) (filling_more (rw front at t.fill) next inside);
-      all = t.all;
-      within = omega arith;
-    }
-
--- a turn by the delta cursor
-pub each_delta : {s ss : List ℕ} {n from d k j : ℕ} {old list : List ℤ} {x : ℕ} {word : ℤ} (delta : Delta) → EachFilling s ss n from d k j old list
-    → j < n → x ≡ get_or ss j 0 → delta ≡ next_delta s (record { at = d }) x → word ≡ delta.word
-    → EachFilling s ss n from delta.next.at k (j + 1) old (set list (k + j) word)
-unfolding next_delta
-each_delta {s} {ss} {n} {from} {d} {k} {j} {old} {list} {x} delta t more symbol a-delta a_word =
-    let at : delta.next.at ≡ d + min (bytes_of x) (length s - d) = ap (λ (e : Delta). e.next.at) a-delta in
-    each_more t more symbol (a_word ∙ ap (λ (e : Delta). e.word) a-delta) (rw at (drop_clamp s d (bytes_of x))) (omega (arith, t.fill.inside))
-
--- a turn whose delta bytes are there
-pub each-there : {s ss : List ℕ} {n from d k j : ℕ} {old list : List ℤ} {x : ℕ} {word : ℤ} (d' : ℕ) → EachFilling s ss n from d k j old list
-    → j < n → x ≡ get_or ss j 0 → word ≡ word_of x (drop d s) → d' ≡ d + bytes_of x → d' ≤ length s
-    → EachFilling s ss n from d' k (j + 1) old (set list (k + j) word)
-each-there {s} {ss} {n} {from} {d} {k} {j} {old} {list} {x} d' t more symbol a_word next inside =
-    each_more t more symbol a_word (rw next (sym (drop-drop (bytes_of x) d s))) inside
-
-pub each_over : {s ss : List ℕ} {n from d k j : ℕ} {old list : List ℤ} → n ≤ j → EachFilling s ss n from d k j old list
-    → Filled s ss from d k old list
+pub listing_one : {bytes ss : List ℕ} {p p' j x : ℕ} {list : List ℤ} {word : ℤ} → Listing bytes ss p j list → j < length ss → j < length list
+    → x ≡ get_or ss j 0 → word ≡ word_of x (drop p bytes) → drop p' bytes ≡ drop (bytes_of x) (drop p bytes) → p' ≤ length bytes
+    → Listing bytes ss p' (j + 1) (set list j word)
 unfolding entries width_of
-each_over {s} {ss} {n} {from} {d} {k} {j} {old} {list} over t =
-    let none : drop j ss ≡ [] = drop_of_length-le ss {i = j} (omega (arith, t.all)) in
-    record { list = rw none at t.fill.words; deltas = rw none at t.fill.deltas; inside = t.fill.inside }
+listing_one {bytes} {ss} {p} {p'} {j} {x} {list} {word} l more room symbol a_word eaten inside =
+    listing_more (x ∷ []) l (rw (symbol, add-one) (take-suc ss j 0 more)) (rw (a_word, add-one) (take-suc-set list j (word_of x (drop p bytes)) room)) (rw add-zero eaten) inside
 
--- ---- all chunks of a block
+-- and all
+pub listing_over : {bytes ss : List ℕ} {p j : ℕ} {list : List ℤ} → Listing bytes ss p j list → length ss ≡ j → length list ≡ j → Filled bytes ss p list
+listing_over {bytes} {ss} {p} {j} {list} l all full =
+    let symbols : take j ss ≡ ss = take_all j ss (omega (arith, all)) in
+    let listed : take j list ≡ list = take_all j list (omega (arith, full)) in
+    record { words = sym listed ∙ l.words ∙ rw symbols refl; rest = l.rest ∙ rw symbols refl; inside = l.inside }
 
-pub record AllFilling (s : List ℕ) (statuses start : ℕ) (c : Chunks) (d k : ℕ) (old list : List ℤ) : Type 0 where
-  pub fill :
-      Filling s (symbols (drop c.at s) c.left) d k list
-      (sets old 0 (entries (symbols (drop 8 s) statuses) (drop start s)))
-      (drop (width_of (symbols (drop 8 s) statuses)) (drop start s)) (length old)
-  pub total : k + length (symbols (drop c.at s) c.left) ≡ length (symbols (drop 8 s) statuses)
+-- ---- a store, and a copy place by place
 
-pub all_start : (s : List ℕ) (statuses start : ℕ) (old : List ℤ) → start ≤ length s
-    → AllFilling s statuses start (record { at = 8; left = statuses }) start 0 old old
-all_start s statuses start old inside =
-    record { fill = record { words = refl; deltas = refl; inside = inside; same = refl }; total = omega arith }
+-- a word as the machine stores it
+pub stored : {word z : ℤ} → SFits w32 word → word ≡ z → to_z w32 (of_z w32 word) ≡ z
+stored {word} fits is = to_z-of_z w32 word fits ∙ is
 
-module _ {s : List ℕ} {statuses start : ℕ} {c : Chunks} {d k : ℕ} {old list : List ℤ} {chunk n : ℕ} {next : Chunks}
-    (p : AllFilling s statuses start c d k old list) (t : IsTaken s c chunk n next) where
-  pub all_total : (k + n) + length (symbols (drop next.at s) next.left) ≡ length (symbols (drop 8 s) statuses)
-  all_total =
-      let sum = simp (length-append, length-take) at (ap length t.more) in
-      omega (arith, sum, p.total, t.count)
+pub copied_one : (from list : List ℤ) {j : ℕ} {word : ℤ} → take j list ≡ take j from → j < length list → j < length from → word ≡ get_or from j (pos 0)
+    → take (j + 1) (set list j word) ≡ take (j + 1) from
+copied_one from list {j} {word} copied room there is =
+    rw add-one (take-suc-set list j word room ∙ rw (copied, is) (sym (take-suc from j (pos 0) there)))
 
-  pub all_more : {d' : ℕ} {new : List ℤ} → Filled s (take n (stands_for chunk)) d d' k list new
-      → AllFilling s statuses start next d' (k + n) old new
-  all_more g =
-      record {
-        fill = filling_part (rw t.more at p.fill) (length-take-le n (stands_for chunk) (omega (arith, t.count))) g;
-        total = all_total;
-      }
-
-pub all_over : {s : List ℕ} {statuses start : ℕ} {c : Chunks} {d k : ℕ} {old list : List ℤ} → AllFilling s statuses start c d k old list
-    → IsOver s c → AllFilled s statuses start old list
-unfolding entries
-all_over p o = rw o.none at p.fill.words
+pub copied_all : (from list : List ℤ) {j : ℕ} → take j list ≡ take j from → length list ≡ j → length from ≡ j → list ≡ from
+copied_all from list {j} copied full all = sym (take_all j list (omega (arith, full))) ∙ copied ∙ take_all j from (omega (arith, all))

@@ -1,6 +1,7 @@
 pub mod Filling
+pub mod Symbols
 pub mod Runs
-pub mod Vectors
+pub mod Chunks
 pub mod Outcomes
 pub mod Keeping
 pub mod Unique

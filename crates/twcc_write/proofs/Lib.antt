@@ -1,8 +1,5 @@
 pub mod Words
-pub mod Storing
-pub mod Bytes
-pub mod Spreading
-pub mod Running
+pub mod Beginning
 pub mod Carrying
 pub mod Joining
 pub mod Answers

@@ -1,19 +1,12 @@
 -- When a block is written, test by test in the order of docs/RULES.md, and what the lent buffer then holds.
-use Rattle.std.specs.Prelude.{ℕ, List, [], ◌∷◌, cond, ltb, ℤ, length}
-use Rattle.std.proofs.Math.Option.{Option}
+use Rattle.std.specs.Prelude.{ℕ, List, [], ◌∷◌, cond, ltb, ℤ, length, Option, Result}
 use Rattle.refusal.specs.Outcome.{Outcome, gave, refuse}
-use Rattle.refusal.specs.Number.{no}
+use Rattle.refusal.specs.declared.Refusal.{Refusal}
 use Rattle.lent.specs.Fills.{Fills}
 use Rattle.twcc.specs.Time.{too_late}
 use Rattle.twcc_plan.specs.Block.{most_entries, first_bad, taken_of, size_of, block_bytes}
 use Rattle.twcc_write.specs.Limits.{least_of}
 use Rattle.twcc_write.specs.declared.Used.{Used}
-use Rattle.twcc_write.specs.declared.Written.{Written}
-use Rattle.twcc_write.specs.declared.Written.TheVariants.{Block, No}
-
-abbrev pub said_written : Written → Outcome Used
-said_written (Block used) = gave used
-said_written (No r) = no r
 
 -- the block's bytes and the entries that it takes, where it is written
 unfoldable pub written : ℕ → List ℤ → Option ℕ → ℕ → Outcome Used
@@ -26,5 +19,5 @@ written time list limit room =
     (gave (record { bytes = size_of limit list; taken = taken_of limit list }))))))
 
 -- the promise of `write`: the answer, and the whole buffer
-abbrev pub Wrote : ℕ → ℕ → ℕ → List ℤ → Option ℕ → List ℕ → Written → List ℕ → Type 0
-Wrote base time feedback list limit old = Fills said_written (written time list limit (length old)) 0 (block_bytes base time feedback limit list) old
+abbrev pub Wrote : ℕ → ℕ → ℕ → List ℤ → Option ℕ → List ℕ → Result Used Refusal → List ℕ → Type 0
+Wrote base time feedback list limit old = Fills (written time list limit (length old)) 0 (block_bytes base time feedback limit list) old

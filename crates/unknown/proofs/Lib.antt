@@ -1,4 +1,3 @@
-pub mod Stored
 pub mod Laws
-pub mod Back
 pub mod Unique
+pub mod Back

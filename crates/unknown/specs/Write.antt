@@ -1,8 +1,7 @@
 -- When a packet is written, test by test in the order of docs/RULES.md, and what the lent buffer then holds.
-use Rattle.std.specs.Prelude.{ℕ, ◌%◌, List, [], ◌∷◌, cond, not, ◌||◌, eqb, ltb, length}
+use Rattle.std.specs.Prelude.{ℕ, ◌%◌, List, [], ◌∷◌, Result, cond, not, ◌||◌, eqb, ltb, length}
 use Rattle.refusal.specs.Outcome.{Outcome, gave, refuse}
-use Rattle.refusal.specs.Said.{said_number}
-use Rattle.refusal.specs.declared.Number.{Number}
+use Rattle.refusal.specs.declared.Refusal.{Refusal}
 use Rattle.lent.specs.Fills.{Fills}
 use Rattle.utils.specs.Header.{longest}
 use Rattle.unknown.specs.Packet.{size_of, packet_bytes}
@@ -17,5 +16,5 @@ written count body padding room =
     (gave (size_of body padding)))))
 
 -- the promise of `write`: the answer, and the whole buffer
-abbrev pub Wrote : ℕ → ℕ → List ℕ → ℕ → List ℕ → Number → List ℕ → Type 0
-Wrote count type body padding old = Fills said_number (written count (length body) padding (length old)) 0 (packet_bytes count type body padding) old
+abbrev pub Wrote : ℕ → ℕ → List ℕ → ℕ → List ℕ → Result ℕ Refusal → List ℕ → Type 0
+Wrote count type body padding old = Fills (written count (length body) padding (length old)) 0 (packet_bytes count type body padding) old

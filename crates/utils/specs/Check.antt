@@ -1,7 +1,15 @@
 -- What is asked of a packet, test by test in the order of docs/RULES.md.
-use Rattle.std.specs.Prelude.{ℕ, ◌+◌, ◌-◌, ◌%◌, List, [], ◌∷◌, Bool, false, cond, not, ◌||◌, length, get_or, eqb, ltb, leb}
+use Rattle.std.specs.Prelude.{ℕ, ◌+◌, ◌-◌, ◌/◌, ◌%◌, List, [], ◌∷◌, Bool, false, cond, not, ◌||◌, Option, Some, None, length, get_or, eqb, ltb, leb}
 use Rattle.refusal.specs.Outcome.{Outcome, gave, refuse, and_then}
 use Rattle.utils.specs.Header.{shortest, longest, version_of, padding_bit_of, type_of, length_of}
+
+-- so many bytes are there
+abbrev pub check_present : List ℕ → ℕ → Outcome Unit
+check_present bytes expected = cond (ltb (length bytes) expected) (refuse 1 (expected ∷ length bytes ∷ [])) (gave tt)
+
+-- the version in a packet's first byte is 2
+abbrev pub check_version : ℕ → Outcome Unit
+check_version first = cond (not (eqb (first / 64) 2)) (refuse 2 (first / 64 ∷ [])) (gave tt)
 
 -- a field read alone needs the header's four bytes
 abbrev pub field : List ℕ → ℕ → Outcome ℕ
@@ -11,16 +19,13 @@ field packet value = cond (ltb (length packet) shortest) (refuse 1 (shortest ∷
 abbrev pub last_byte_of : List ℕ → ℕ
 last_byte_of packet = get_or packet (length_of packet - 1) 0
 
-pub data Padding : Type 0 where
-  clear : Padding
-  byte : ℕ → Padding
-
-unfoldable pub padding_byte : List ℕ → Outcome Padding
+-- that byte, where the padding bit is set
+unfoldable pub padding_byte : List ℕ → Outcome (Option ℕ)
 padding_byte packet =
     cond (ltb (length packet) shortest) (refuse 1 (shortest ∷ length packet ∷ []))
-    (cond (eqb (padding_bit_of packet) 0) (gave clear)
+    (cond (eqb (padding_bit_of packet) 0) (gave None)
     (cond (ltb (length packet) (length_of packet)) (refuse 1 (length_of packet ∷ length packet ∷ []))
-    (gave (byte (last_byte_of packet)))))
+    (gave (Some (last_byte_of packet)))))
 
 -- the packet is as long as it says
 unfoldable pub own_length : List ℕ → Outcome Unit

@@ -1,15 +1,18 @@
-use mathlib.Core.Path.{sym, ◌∙◌}
-use Rattle.lent.proofs.Laws.{length-zero_bytes, get_or-zero_bytes, sets_zeros}
-use Rattle.lent.proofs.Storing.{storing_start, storing_turn, storing_over}
+-- The part that is filled holds as many zeros as fit.
+use Prim.Native.Nat.{ℕ, ◌-◌, ◌≤◌}
+use mathlib.Core.Path.{◌≡◌, sym, ap, ◌∙◌}
+use native.Mathlib.Omega.{arith}
+use lib.ListN.{length, take, drop, length-take, length-drop, replicate}
+use Rattle.lent.specs.Bytes.{zero_bytes, fitting}
+use Rattle.lent.proofs.Laws.{part_stored, length-zero_bytes, take-zero_bytes}
 use Rattle.lent.proofs.zeros.Goals as goal
 
-pub loop-j-init : goal.loop-j-init
-loop-j-init c = storing_start _ _ _ _ (length-zero_bytes _)
-
-pub loop-j-preserved : goal.loop-j-preserved
-loop-j-preserved c = let l = c.loop-j in
-    storing_turn 0 0 (sym (get_or-zero_bytes l.j _)) c.loop-j-test.true l.invariant
-
 pub returns : goal.returns
-returns c = storing_over c.loop-j-test.false c.loop-j.invariant
-    ∙ rw c.fit-n.ensures (sets_zeros c.args.out.now _ _)
+returns c = let a = c.args in
+    let start = c.min-start.result in
+    let n = c.end_of-end.result - start in
+    let counts : n ≡ fitting (length a.out.now) start (length (zero_bytes a.count)) = omega (arith, length-zero_bytes a.count) in
+    let few : n ≤ a.count = omega arith in
+    let size : length (take n (drop start a.out.now)) ≡ n = omega (arith, length-take n (drop start a.out.now), length-drop start a.out.now) in
+    part_stored a.out.now _ (zero_bytes a.count) a.at start n c.min-start.ensures counts
+    (c.fill.ensures.after (λ y same. same) ∙ ap (λ (k : ℕ). replicate k 0) size ∙ sym (take-zero_bytes n a.count few))

@@ -1,10 +1,10 @@
--- Each number that is passed is not in the store.
-use Prim.Native.Nat.{◌-◌}
-use Rattle.nack_write.proofs.Scan.{Passed}
+-- Nothing stands before the first number of the byte that is looked at.
+use Rattle.std.proofs.Common.{◌≡◌, ◌*◌, ◌-◌, length}
+use Rattle.nack_store.specs.Bits.{bit_of, members}
 use Rattle.nack_write.proofs.next_from.Given as goal
 
-abbrev pub invariant-loop-number : goal.invariant-loop-number
-invariant-loop-number l = Passed l.store l.first l.number
-
-abbrev pub decreases-loop-number : goal.decreases-loop-number
-decreases-loop-number l = 65536 - l.number
+abbrev pub invariant-loop-at : goal.invariant-loop-at
+invariant-loop-at l =
+    let f = bit_of l.store in
+    let end = 8 * length l.store in
+    members f l.first (end - l.first) ≡ members f (8 * l.at) (end - 8 * l.at)

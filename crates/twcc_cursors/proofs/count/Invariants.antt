@@ -4,8 +4,8 @@ use lib.ListN.{length}
 use Rattle.twcc_cursors.proofs.Steps.{Counting}
 use Rattle.twcc_cursors.proofs.count.Given as goal
 
-abbrev pub invariant-loop-count : goal.invariant-loop-count
-invariant-loop-count l = Counting l.block l.c l.listed
+abbrev pub invariant-loop-got : goal.invariant-loop-got
+invariant-loop-got l = Counting l.block l.c l.listed
 
-abbrev pub decreases-loop-count : goal.decreases-loop-count
-decreases-loop-count l = length l.block - l.c.at
+abbrev pub decreases-loop-got : goal.decreases-loop-got
+decreases-loop-got l = length l.block - l.c.at

@@ -1,13 +1,8 @@
-use mathlib.Core.Path.{refl, sym, ◌∙◌}
-use lib.IntN.{pos}
-use Rattle.twcc_plan.proofs.Fronts.{count_turn, count_stop, count-over}
+-- The words at the front that are in range.
+use Rattle.std.proofs.Common.{rules}
+use Rattle.twcc_plan.specs.Block.{in_range}
+use Rattle.twcc_plan.proofs.Fronts.{front_is}
 use Rattle.twcc_plan.proofs.first_bad.Goals as goal
 
-pub returns-then-not-fine_at : goal.returns-then-not-fine_at
-returns-then-not-fine_at c = count_stop _ _ c.loop-n.invariant (pos 0) c.loop-n-test.true (sym c.fine_at.ensures ∙ c.if-not-fine_at.true)
-
-pub loop-n-preserved : goal.loop-n-preserved
-loop-n-preserved c = count_turn _ _ c.loop-n.invariant (pos 0) c.loop-n-test.true c.loop-n-test.true (sym c.fine_at.ensures ∙ c.if-not-fine_at.false)
-
 pub returns : goal.returns
-returns c = count-over _ _ c.loop-n.invariant refl c.loop-n-test.false
+returns c = front_is in_range _ (λ w r says. search rules) _ _ c.by_blocks.ensures

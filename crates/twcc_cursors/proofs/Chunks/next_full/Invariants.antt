@@ -5,8 +5,8 @@ use lib.ListN.{length, drop}
 use Rattle.twcc_cursors.specs.Cursors.{full_chunk}
 use Rattle.twcc_cursors.proofs.Chunks.next_full.Given as goal
 
-abbrev pub invariant-loop-chunk : goal.invariant-loop-chunk
-invariant-loop-chunk l = full_chunk (drop l.c.at l.block) l.c.at l.c.left ≡ full_chunk (drop l.initial.c.at l.block) l.initial.c.at l.initial.c.left
+abbrev pub invariant-loop-got : goal.invariant-loop-got
+invariant-loop-got l = full_chunk (drop l.c.at l.block) l.c.at l.c.left ≡ full_chunk (drop l.initial.c.at l.block) l.initial.c.at l.initial.c.left
 
-abbrev pub decreases-loop-chunk : goal.decreases-loop-chunk
-decreases-loop-chunk l = length l.block - l.c.at
+abbrev pub decreases-loop-got : goal.decreases-loop-got
+decreases-loop-got l = length l.block - l.c.at

@@ -1,27 +1,19 @@
 -- The counts and the tests are those of the rule.
-use Prim.Native.Nat.{◌≤◌}
 use mathlib.Core.Path.{sym, ap, ◌∙◌}
 use mathlib.Core.List.{map}
 use native.Mathlib.Omega.{arith}
-use native.Mathlib.Nat.{mul-le-mul}
 use lib.ListN.{length-map}
 use Rattle.twcc.specs.Words.{symbol_of}
-use Rattle.twcc.specs.Chunks.{longest_run}
 use Rattle.twcc_plan.specs.Choice.{is_one}
 use Rattle.twcc_plan.proofs.Choosing.{run_le, picks_run, picks_one, picks_two}
 use Rattle.twcc_plan.proofs.pick.pick_counted.Goals as goal
 
-pub overflow_add-result : goal.overflow_add-result
-overflow_add-result c = omega (arith, c.run_length-r.ensures, run_le (map symbol_of c.args.rest.now), c.symbol_at-symbol.ensures.1)
-
-pub overflow_mul-result-then-is_run : goal.overflow_mul-result-then-is_run
-overflow_mul-result-then-is_run c = let r = c.run_length-r in
-    let few : r.result ≤ longest_run = omega (arith, r.ensures, run_le (map symbol_of c.args.rest.now)) in
-    omega (arith, mul-le-mul c.symbol_at-symbol.ensures.1 few)
+pub run_picked-requires : goal.run_picked-requires
+run_picked-requires c = (omega (arith, c.symbol_at.ensures.1), omega (arith, c.run_length-r.ensures, run_le (map symbol_of c.args.rest.now)))
 
 pub returns-then-is_run : goal.returns-then-is_run
-returns-then-is_run c = picks_run (map symbol_of c.args.rest.now) _ _ c.run_length-r.ensures c.ones_length-b.ensures _
-    (sym c.is_run.ensures ∙ c.if-is_run.true) c.symbol_at-symbol.ensures.0
+returns-then-is_run c = c.run_picked.ensures
+    ∙ picks_run (map symbol_of c.args.rest.now) _ _ c.run_length-r.ensures c.ones_length-b.ensures _ (sym c.is_run.ensures ∙ c.if-is_run.true) c.symbol_at.ensures.0
 
 pub returns-then-is_one : goal.returns-then-is_one
 returns-then-is_one c = let rest = c.args.rest.now in

@@ -4,4 +4,4 @@ use Rattle.twcc_plan.proofs.pick.run_length.Goals as goal
 
 pub returns : goal.returns
 unfolding run_of
-returns c = rw (← c.symbol_or_lost.ensures.0) c.run_known.ensures
+returns c = rw (← c.symbol_at.ensures.0) c.run_known.ensures

@@ -9,17 +9,17 @@ use Rattle.twcc_plan.proofs.Packing.{turn-fits, packing_turn, packing_over}
 use Rattle.twcc_plan.proofs.pick.vector.Goals as goal
 
 pub overflow_mul-digits : goal.overflow_mul-digits
-overflow_mul-digits c = omega (arith, turn-fits c.requires _ c.loop-n.invariant c.loop-n-test.true)
+overflow_mul-digits c = omega (arith, turn-fits c.requires _ c.loop-place.invariant c.loop-place-test.true)
 
 pub overflow_add-digits : goal.overflow_add-digits
-overflow_add-digits c = omega (arith, turn-fits c.requires _ c.loop-n.invariant c.loop-n-test.true, c.symbol_at-symbol.ensures.1)
+overflow_add-digits c = omega (arith, turn-fits c.requires _ c.loop-place.invariant c.loop-place-test.true, c.symbol_at-symbol.ensures.1)
 
-pub loop-n-preserved : goal.loop-n-preserved
-loop-n-preserved c = packing_turn c.requires _ c.loop-n.invariant c.loop-n-test.true _ c.symbol_at-symbol.ensures.0 c.symbol_at-symbol.ensures.1
+pub loop-place-preserved : goal.loop-place-preserved
+loop-place-preserved c = packing_turn c.requires _ c.loop-place.invariant c.loop-place-test.true _ c.symbol_at-symbol.ensures.0 c.symbol_at-symbol.ensures.1
 
 pub returns : goal.returns
 unfolding vector_of
 returns c = let a = c.args in
-    let over = packing_over c.requires (map symbol_of a.rest.now) c.loop-n.invariant c.loop-n-test.false in
-    let count = c.lesser.ensures ∙ ap (min a.places) (sym (length-map a.rest.now symbol_of)) in
+    let over = packing_over c.requires (map symbol_of a.rest.now) c.loop-place.invariant c.loop-place-test.false in
+    let count = c.min.ensures ∙ ap (min a.places) (sym (length-map a.rest.now symbol_of)) in
     cc

@@ -1,36 +1,41 @@
-use Prim.Native.Nat.{◌+◌, ◌≤◌}
-use mathlib.Core.Path.{sym, subst, ◌∙◌}
+use Prim.Native.Nat.{◌+◌, ◌-◌, ◌≤◌}
 use native.Mathlib.Omega.{arith}
-use lib.ListN.{length}
-use Rattle.twcc_cursors.proofs.Steps.{IsTaken, StepIs, step_is}
-use Rattle.twcc_read.proofs.Filling.{all_total, all_more, all_over}
+use borrow.Author.Rules.{rules}
+use lib.ListN.{length, drop, length-take, length-drop}
+use Rattle.twcc_cursors.proofs.Steps.{IsTaken, step_none, step_some}
+use Rattle.twcc_read.proofs.Chunks.{filling_start, room, filling_more, filling_over}
 use Rattle.twcc_read.proofs.fill.fill_all.Goals as goal
-use Rattle.twcc_read.proofs.fill.fill_all.Goals.{In-Taken}
+use Rattle.twcc_read.proofs.fill.fill_all.Goals.{In-Some}
 
 -- what a step that takes a chunk says
-taken : (c : In-Taken) → IsTaken c.args.block.now c.loop-chunk.c c.in-Taken.chunk c.in-Taken.count c.in-Taken.next
-taken c = subst (StepIs _ _) (sym c.next.ensures ∙ c.in-Taken.is) (step_is _ _)
+taken : (c : In-Some) → IsTaken c.args.block.now c.loop-got.c c.in-Some.got
+taken c = step_some _ _ c.in-Some.ensures
 
 -- there is room for its entries
-room : (c : In-Taken) → c.loop-chunk.k + c.in-Taken.count ≤ length c.loop-chunk.list
-room c = omega (arith, all_total c.loop-chunk.invariant (taken c), c.loop-chunk.invariant.fill.same, c.requires.room)
+fits : (c : In-Some) → c.loop-got.k + c.in-Some.got.count ≤ length c.loop-got.list
+fits c = room c.loop-got.invariant (taken c) c.requires.room
 
-pub fill_chunk-d-requires : goal.fill_chunk-d-requires
-fill_chunk-d-requires c =
-    let here = (goal.at.fill_chunk-d-requires c).In-Taken in
-    record { enough = omega (arith, (taken here).count); room = room here; inside = c.loop-chunk.invariant.fill.inside }
+pub loop-got-init : goal.loop-got-init
+loop-got-init c = filling_start _ _ _ _ c.requires.inside
 
 pub overflow_add-k : goal.overflow_add-k
-overflow_add-k c =
-    omega (arith, room (goal.at.overflow_add-k c).In-Taken)
+overflow_add-k c = omega (arith, fits (goal.at.overflow_add-k c).In-Some)
 
-pub loop-chunk-smaller : goal.loop-chunk-smaller
-loop-chunk-smaller c =
-    let t = taken (goal.at.loop-chunk-smaller c).In-Taken in omega (arith, t.fits, t.at)
+pub slice_bounds-fill_chunk-end-in-Some : goal.slice_bounds-fill_chunk-end-in-Some
+slice_bounds-fill_chunk-end-in-Some c = let f = fits (goal.at.slice_bounds-fill_chunk-end-in-Some c).In-Some in search rules
 
-pub loop-chunk-preserved : goal.loop-chunk-preserved
-loop-chunk-preserved c =
-    all_more c.loop-chunk.invariant (taken (goal.at.loop-chunk-preserved c).In-Taken) c.fill_chunk-d.ensures
+pub fill_chunk-d-requires : goal.fill_chunk-d-requires
+fill_chunk-d-requires c = let t = taken (goal.at.fill_chunk-d-requires c).In-Some in omega (arith, t.count, length-take (c.loop-got.k + c.in-Some.got.count - c.loop-got.k) (drop c.loop-got.k c.loop-got.list))
 
-pub returns-in-Over : goal.returns-in-Over
-returns-in-Over c = all_over c.loop-chunk.invariant (subst (StepIs _ _) (sym c.next.ensures ∙ c.in-Over.is) (step_is _ _))
+pub loop-got-smaller : goal.loop-got-smaller
+loop-got-smaller c = let t = taken (goal.at.loop-got-smaller c).In-Some in omega (arith, t.fits, t.at)
+
+pub loop-got-preserved : goal.loop-got-preserved
+loop-got-preserved c =
+    let here = (goal.at.loop-got-preserved c).In-Some in
+    let f = fits here in
+    filling_more c.loop-got.invariant (taken here) c.requires.room _ _ (omega arith)
+    (simp (length-take, length-drop) (omega arith)) c.fill_chunk-d.ensures
+
+pub returns : goal.returns
+returns c = filling_over c.loop-got.invariant (step_none _ _ c.in_default.ensures) c.requires.room

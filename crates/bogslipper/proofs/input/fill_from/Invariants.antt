@@ -1,0 +1,9 @@
+-- The room keeps its length, and each turn reads a byte or more.
+use Rattle.std.proofs.Common.{◌≡◌, ◌-◌, ◌≤◌, length}
+use Rattle.bogslipper.proofs.input.fill_from.Given as goal
+
+abbrev pub invariant-loop-size : goal.invariant-loop-size
+invariant-loop-size g l = (length l.room ≡ length l.initial.room) × (l.size ≤ length l.room)
+
+abbrev pub decreases-loop-size : goal.decreases-loop-size
+decreases-loop-size g l = length l.initial.room - l.size

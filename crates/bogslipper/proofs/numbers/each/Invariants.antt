@@ -1,9 +1,0 @@
--- An index is tested before it is used.
-use Rattle.std.proofs.Common.{◌-◌, ◌≤◌}
-use Rattle.bogslipper.proofs.numbers.each.Given as goal
-
-abbrev pub invariant-loop-i : goal.invariant-loop-i
-invariant-loop-i g l = l.i ≤ l.count
-
-abbrev pub decreases-loop-i : goal.decreases-loop-i
-decreases-loop-i g l = l.count - l.i

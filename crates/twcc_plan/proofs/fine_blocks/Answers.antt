@@ -1,6 +1,0 @@
-use native.Mathlib.Omega.{arith}
-use Rattle.twcc_plan.proofs.Fronts.{count-block}
-use Rattle.twcc_plan.proofs.fine_blocks.Goals as goal
-
-pub loop-n-preserved : goal.loop-n-preserved
-loop-n-preserved c = count-block _ _ c.loop-n.invariant 128 (omega (arith, c.loop-n-test.true, c.loop-n.invariant.within)) (c.outside.ensures c.if-outside-ne0.false)

@@ -1,7 +1,0 @@
--- All bytes are there, or all that are there are listed and the rest is cut.
-use native.Mathlib.Omega.{arith}
-use Rattle.twcc_read.proofs.Runs.{run_cut}
-use Rattle.twcc_read.proofs.fill.fill_small_run.Goals as goal
-
-pub returns : goal.returns
-returns c = run_cut 1 c.args.n (omega arith) (omega arith) (omega arith) c.requires.inside (omega arith) (omega arith) c.fill_small-2.ensures c.fill_same.ensures
