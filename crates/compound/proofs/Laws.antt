@@ -1,7 +1,7 @@
 -- Laws of one turn of the pass, of the pass, and of one step of the walk: what callers use instead of the definitions' text.
 use Prim.Native.Nat.{ℕ, zero, suc, ◌+◌, ◌-◌, ◌%◌, ◌≤◌, ◌<◌}
 use mathlib.Core.List.{List, [], ◌∷◌}
-use mathlib.Core.Path.{◌≡◌, sym, ◌∙◌}
+use mathlib.Core.Path.{◌≡◌, ap, sym, ◌∙◌}
 use mathlib.Core.Bool.{true}
 use native.Mathlib.Omega.{arith}
 use lib.IntN.{ℤ}
@@ -12,8 +12,10 @@ use Rattle.utils.specs.Header.{version_of, padding_bit_of}
 use Rattle.utils.specs.Check.{padding_fits}
 use Rattle.compound.specs.Pass.{end_of, first_turn, turns_from, pass_by, first_pass}
 use Rattle.compound.specs.Record.{packet_at, AddsUp}
-use Rattle.compound.specs.Walk.{walk_step, step}
+use Rattle.compound.specs.Walk.{walk_step, step, next_of, walk_next}
+use Rattle.compound.specs.Said.{said_walked}
 use Rattle.compound.specs.declared.Packet.{Packet}
+use Rattle.compound.specs.declared.Walked.{Walked}
 use Rattle.compound.proofs.Record.{shared_out}
 
 -- ---- one turn
@@ -113,3 +115,16 @@ pub record Handed (bytes : List ℕ) (at next : ℕ) (p : Packet) : Type 0 where
 pub walk-packet : (bytes : List ℕ) (at next : ℕ) (p : Packet) → walk_step bytes at ≡ step (gave (Some p)) next → Handed bytes at next p
 unfolding walk_step
 walk-packet bytes at next p steps = grind (arith, shared_out)
+
+-- every step before the end moves on, and none past it; so does the answer to it
+pub record Moves (bytes : List ℕ) (at next : ℕ) : Type 0 where
+  pub on : at < next
+  pub within : next ≤ length bytes
+
+pub walk_moves : (bytes : List ℕ) (at : ℕ) → at < length bytes → Moves bytes at (walk_next bytes at)
+unfolding walk_next walk_step
+walk_moves bytes at more = grind arith
+
+pub answer_moves : (bytes : List ℕ) (at : ℕ) (w : Walked) → said_walked w ≡ walk_step bytes at → at < length bytes → Moves bytes at w.next
+unfolding walk_next
+answer_moves bytes at w said more = rw (ap next_of said) (walk_moves bytes at more)

@@ -24,7 +24,7 @@ module _ (s : List ℕ) (n : ℕ) (size : n ≡ length_of s) (there : n ≤ leng
 
   pub take_misfits : misfits (take n s) ≡ misfits s
   unfolding misfits
-  take_misfits = grind (arith, take_fits)
+  take_misfits = grind (arith, take_fits, take_last)
 
 pub ruleset front = (length-drop, length-take, get_or-drop, take_rest, take_fits, take_padding, take_misfits)
 

@@ -44,9 +44,11 @@ fn refused(r: Refusal) -> Said
     ensures { Answers (no r) result }
 {
     let told = Told::from(r);
+    let said = given([told.first, told.second]);
+    let values = said.values;
     Said {
         number: told.number,
-        values: [told.first, told.second, 0, 0, 0, 0, 0, 0],
+        values,
     }
 }
 

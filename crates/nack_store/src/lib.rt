@@ -14,8 +14,8 @@ use refusal::Refusal;
 // The size of a store: a bit for each of the 65,536 numbers.
 pub const STORE: usize = 8192;
 
-// Bytes as a store, whose type says its size.
-pub fn sized(bytes: &[u8]) -> Result<&[u8; STORE], Refusal>
+// Bytes as a store, whose type says its size. Where the array stands, the library's contract does not say, so that no other crate is handed it.
+fn sized(bytes: &[u8]) -> Result<&[u8; STORE], Refusal>
     ensures { AsStore bytes.now result }
 {
     bytes.as_array().ok_or(Refusal::StoreLength(bytes.len()))

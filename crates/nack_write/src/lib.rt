@@ -4,6 +4,7 @@
 ghost use Rattle.std.specs.Prelude.{◌≡◌, ◌+◌, ◌≤◌, length};
 ghost use Rattle.std.proofs.lemmas.List.Edits.{sets};
 ghost use Rattle.nack_store.specs.Bits.{bit_of, window, numbers_of};
+ghost use Rattle.nack_store.specs.Promise.{AsStore};
 ghost use Rattle.nack.specs.Entries.{entries_of, nack_bytes, entry_bytes};
 ghost use Rattle.nack_write.specs.Promise.{Next, Wrote};
 
@@ -12,6 +13,13 @@ use refusal::Refusal;
 
 // The bytes of the most entries that a store needs: 3,856 of them.
 const MOST: usize = 15424;
+
+// Bytes as a store, whose type says its size.
+fn sized(bytes: &[u8]) -> Result<&[u8; STORE], Refusal>
+    ensures { AsStore bytes.now result }
+{
+    bytes.as_array().ok_or(Refusal::StoreLength(bytes.len()))
+}
 
 // The bits of sixteen numbers, the first worth 1. At the end of the store there are no three bytes to read as one number.
 #[tactic(auto, using(crate::proofs::Scan::window_of_three))]
@@ -111,7 +119,7 @@ fn put_entries(store: &[u8; STORE], out: &mut [u8]) -> usize
 pub fn write(store: &[u8], out: &mut [u8]) -> Result<usize, Refusal>
     ensures { Wrote store.now out.old result out.new }
 {
-    let store = nack_store::sized(store)?;
+    let store = sized(store)?;
     let present = out.len();
     if present < MOST {
         let needed = 4 * count_entries(store);

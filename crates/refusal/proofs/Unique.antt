@@ -10,6 +10,7 @@ use Rattle.refusal.specs.Number.{number_of, values_of, no}
 use Rattle.std.specs.Prelude.{Result, Ok, Err}
 use Rattle.refusal.specs.Said.{said}
 use Rattle.refusal.specs.Told.{Tells}
+use Rattle.refusal.specs.Words.{words}
 use Rattle.refusal.specs.declared.Refusal.{Refusal}
 use Rattle.refusal.specs.declared.Told.{Told}
 use Rattle.refusal.specs.declared.Refusal.TheVariants.{Truncated, UnsupportedVersion, PacketTypeMismatch, TooLarge, InvalidPadding, CountOutOfRange, UnevenPadding, ReferenceTimeTooLarge, BodyLength, StatusOutOfRange, ListTooLong, LimitTooSmall, OutputTooSmall, StoreLength, LeastLength}
@@ -70,3 +71,7 @@ said_unique (Err r) (Err q) same = ap Err (no_unique r q same)
 pub tells_unique : (r : Refusal) (a b : Told) → Tells r a → Tells r b → a ≡ b
 tells_unique r a b p q i =
     record { number = (p.number ∙ sym q.number) i; first = (p.first ∙ sym q.first) i; second = (p.second ∙ sym q.second) i }
+
+-- two texts of one refusal
+pub words_unique : (r : Refusal) {a b : List ℕ} → a ≡ words r → b ≡ words r → a ≡ b
+words_unique r p q = p ∙ sym q

@@ -2,3 +2,4 @@ pub mod Outcome
 pub mod Number
 pub mod Said
 pub mod Told
+pub mod Words

@@ -9,7 +9,7 @@ use Rattle.refusal.specs.declared.Told.{Told}
 abbrev pub value_bits : List ℤ → ℕ → ℕ
 value_bits values place = bits64 (get_or values place (pos 0))
 
--- what `tell` promises
+-- what `Told::from` promises
 pub record Tells (r : Refusal) (t : Told) : Type 0 where
   pub number : t.number ≡ number_of r
   pub first : t.first ≡ value_bits (values_of r) 0

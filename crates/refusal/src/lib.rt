@@ -27,6 +27,11 @@ pub enum Refusal {
 
 // A refusal in words, with its values.
 impl fmt::Display for Refusal {
+    ghost use Rattle.std.specs.Prelude.{Some};
+    ghost use Rattle.refusal.specs.Words.{words};
+
+    ghost output = { λ r. Some (words r) };
+
     fn fmt<W: fmt::Write>(&self, f: &mut fmt::Formatter<W>) -> fmt::Result {
         match *self {
             Refusal::Truncated { expected, actual } => {

@@ -83,7 +83,7 @@ impl Chunks {
         }
         let chunk = octets::be16_at(block, at);
         let size = twcc::size(chunk);
-        let count = left.min(size);
+        let count = octets::lesser(left, size);
         Some(NextChunk {
             chunk,
             count,

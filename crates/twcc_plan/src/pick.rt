@@ -107,7 +107,7 @@ fn vector(rest: &[i32], base: usize, places: usize, top: usize) -> Picked
     }
     Picked {
         chunk: top + digits,
-        count: places.min(rest.len()),
+        count: octets::lesser(places, rest.len()),
         width,
     }
 }

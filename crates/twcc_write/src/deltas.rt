@@ -142,7 +142,7 @@ pub(crate) fn put_deltas(list: &[i32], chunks: usize, body: &mut [u8])
     let mut p = 0;
     for bytes in chunks.chunks_exact(2) {
         let chunk = octets::joined(bytes[0], bytes[1]);
-        let (words, behind) = rest.split_at(twcc::size(chunk).min(rest.len()));
+        let (words, behind) = rest.split_at(octets::lesser(twcc::size(chunk), rest.len()));
         p += put_chunk(chunk, words, &mut out[p..]);
         rest = behind;
     }

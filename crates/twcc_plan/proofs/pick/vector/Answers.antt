@@ -21,5 +21,5 @@ pub returns : goal.returns
 unfolding vector_of
 returns c = let a = c.args in
     let over = packing_over c.requires (map symbol_of a.rest.now) c.loop-place.invariant c.loop-place-test.false in
-    let count = c.min.ensures ∙ ap (min a.places) (sym (length-map a.rest.now symbol_of)) in
+    let count = c.lesser.ensures ∙ ap (min a.places) (sym (length-map a.rest.now symbol_of)) in
     cc

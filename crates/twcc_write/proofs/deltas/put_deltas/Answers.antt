@@ -9,12 +9,12 @@ use Rattle.twcc_write.proofs.deltas.put_deltas.Goals as goal
 use Rattle.twcc_write.proofs.deltas.put_deltas.Goals.{After-split_at}
 
 -- what a turn carries
-next : (c : After-split_at) → Carried c.args.list.now c.joined-chunk.result (chunks_exact_rest c.next.new.self) c.loop-bytes.rest.now c.min.result c.loop-bytes.p c.loop-bytes.out
+next : (c : After-split_at) → Carried c.args.list.now c.joined-chunk.result (chunks_exact_rest c.next.new.self) c.loop-bytes.rest.now c.lesser.result c.loop-bytes.p c.loop-bytes.out
 next c =
     let steps = c.in-Some.ensures.steps in
     let before = c.loop-bytes.invariant in
     carried before.1 c.in-Some.bytes.now _ steps.1.0 (steps.1.1 ∙ before.0) _ _ c.joined-chunk.ensures.0
-    (c.min.ensures ∙ ap (λ (n : _). min n (length c.loop-bytes.rest.now)) c.size.ensures)
+    (c.lesser.ensures ∙ ap (λ (n : _). min n (length c.loop-bytes.rest.now)) c.size.ensures)
 
 pub put_chunk-p-requires : goal.put_chunk-p-requires
 put_chunk-p-requires c = rw c.split_at.ensures.front (next (goal.at.put_chunk-p-requires c).After-split_at).storable
