@@ -8,7 +8,7 @@ use lib.Count.{ones, count_trailing_zeros}
 use native.Mathlib.Nat.{add-zero, zero-add}
 use native.Mathlib.Numerals.{add-one}
 use lib.ListN.{length, get_or, take, drop, set, length-append, length-drop, drop_of_length-le}
-use lib.Seq.{sets, take_all}
+use lib.Seq.{sets, take_all, drop-cons}
 use borrow.Rule.Slice.PartMut.{put_mid}
 use Rattle.std.specs.Simd.{first_chunks}
 use Rattle.std.proofs.lemmas.List.{take_more}
@@ -122,3 +122,29 @@ listed_more es i number mask old list new place next more first second before en
       entry.0 ∙ rw (before.0, all) (sym (length-append front (named number mask))),
       entry.1 ∙ rw (before.1, here, all) (sets_append old 0 front (named number mask)),
     )
+
+-- the entry that stands first among those to come: there is room for it, and then it is listed
+module _ (es rest behind : List (List ℕ)) (e : List ℕ) (left : rest ≡ drop (length es - length rest) es) (is : rest ≡ e ∷ behind) (number mask : ℕ) (first : number ≡ be 2 e 0) (second : mask ≡ be 2 e 2) where
+  counts : (length rest ≡ suc (length behind)) × (length rest ≡ length es - (length es - length rest))
+  counts = (ap length is, ap length left ∙ length-drop (length es - length rest) es)
+
+  more : length es - length rest < length es
+  more = omega (arith, counts)
+
+  here : e ∷ behind ≡ get_or es (length es - length rest) [] ∷ drop (suc (length es - length rest)) es
+  here = sym is ∙ left ∙ drop-cons es (length es - length rest) [] more
+
+  entry : e ≡ get_or es (length es - length rest) []
+  entry = ap (λ (l : List (List ℕ)). get_or l 0 []) here
+
+  pub next_room : (place room : ℕ) → place ≡ length (named_by (take (length es - length rest) es)) → length (named_by es) ≤ room → place + length (named number mask) ≤ room
+  next_room place room front fits = rw (front, first, second, entry) (listed_room es (length es - length rest) room more fits)
+
+  pub next_listed : (old list new : List ℕ) (place next : ℕ)
+      → (place ≡ length (named_by (take (length es - length rest) es))) × (list ≡ sets old 0 (named_by (take (length es - length rest) es)))
+      → (next ≡ place + length (named number mask)) × (new ≡ sets list place (named number mask))
+      → (behind ≡ drop (length es - length behind) es) × (next ≡ length (named_by (take (length es - length behind) es))) × (new ≡ sets old 0 (named_by (take (length es - length behind) es)))
+  next_listed old list new place next before stored =
+      let on : length es - length behind ≡ length es - length rest + 1 = omega (arith, counts) in
+      let all = listed_more es (length es - length rest) number mask old list new place next more (rw entry at first) (rw entry at second) before stored in
+      rw on (rw add-one (ap (drop 1) here), all.0, all.1)

@@ -30,7 +30,7 @@ past false number values o is = (refl, is)
 abbrev pub used_for : List ℤ → Option ℕ → Used
 used_for list limit = record { bytes = size_of limit list; taken = taken_of limit list }
 
-written_passed : {time : ℕ} {list : List ℤ} {limit : Option ℕ} {room : ℕ} (used : Used) → written time list limit room ≡ gave used
+pub written_passed : {time : ℕ} {list : List ℤ} {limit : Option ℕ} {room : ℕ} (used : Used) → written time list limit room ≡ gave used
     → BlockStorable time list limit room × (used ≡ used_for list limit)
 unfolding written
 written_passed {time} {list} {limit} {room} used gives =

@@ -86,23 +86,22 @@ width-run x zero = sym (zero-mul (bytes_of x))
 width-run x (suc n) = rw (width-run x n) (omega (arith, suc-mul n (bytes_of x)))
 
 -- how far whole deltas reach
-reach : (delta n m size : ℕ) → 0 < delta → delta ≤ 2 → m ≡ size / delta → m < n → (size - m * delta < delta) × (size ≤ n * delta)
+pub reach : (delta n m size : ℕ) → 0 < delta → delta ≤ 2 → m ≡ size / delta → m < n → (size - delta * m < delta) × (size ≤ n * delta)
 reach zero n m size some few whole more = absurd (omega arith)
 reach (suc zero) n m size some few whole more = (omega arith, omega arith)
 reach (suc (suc zero)) n m size some few whole more = (omega arith, omega arith)
 reach (suc (suc (suc delta))) n m size some few whole more = absurd (omega arith)
 
--- as many deltas as have their bytes, and the rest of the run is cut; in the end no byte is left
-pub run_cut : (delta n q : ℕ) {bytes : List ℕ} {m : ℕ} {front cut : List ℤ} → 0 < delta → delta ≤ 2 → m ≡ length bytes / delta → m < n
-    → Filled bytes (replicate m delta) (delta * m) front → cut ≡ replicate q truncated → m + q ≡ n → Filled bytes (replicate n delta) (length bytes) (front ++ cut)
-run_cut delta n q {bytes} {m} {front} {cut} some few whole more filled stored sum =
+-- m of the n deltas have their bytes, fewer than a delta's bytes follow, and the rest of the run is cut; in the end no byte is left
+pub run_cut : (delta n m q : ℕ) {bytes : List ℕ} {eaten : ℕ} {front cut : List ℤ} → 0 < delta → delta ≤ 2 → m + q ≡ n → length bytes - eaten < delta → length bytes ≤ n * delta
+    → Filled bytes (replicate m delta) eaten front → cut ≡ replicate q truncated → Filled bytes (replicate n delta) (length bytes) (front ++ cut)
+run_cut delta n m q {bytes} {eaten} {front} {cut} some few sum short long filled stored =
     let parts : replicate m delta ++ replicate q delta ≡ replicate n delta = replicate-append-replicate m q delta ∙ ap (λ (i : ℕ). replicate i delta) sum in
-    let width : (k : ℕ) → width_of (replicate k delta) ≡ k * delta = λ k. width-run delta k ∙ ap (λ (b : ℕ). k * b) (bytes-symbol delta (omega arith)) in
-    let far = reach delta n m (length bytes) some few whole more in
-    let short : length (drop (width_of (replicate m delta)) bytes) < delta = rw (length-drop, width m) far.0 in
+    let width : width_of (replicate n delta) ≡ n * delta = width-run delta n ∙ ap (λ (b : ℕ). n * b) (bytes-symbol delta (omega arith)) in
+    let left : length (drop (width_of (replicate m delta)) bytes) < delta = rw (← filled.rest, length-drop) short in
     record {
-      words = rw (filled.words, stored, ← parts, entries-append) (ap (λ (l : List ℤ). entries (replicate m delta) bytes ++ l) (sym (entries_cut delta some few q _ short)));
-      rest = drop_of_length-le bytes {i = length bytes} (omega arith) ∙ sym (rw (width n) (drop_of_length-le bytes far.1));
+      words = rw (filled.words, stored, ← parts, entries-append) (ap (λ (l : List ℤ). entries (replicate m delta) bytes ++ l) (sym (entries_cut delta some few q _ left)));
+      rest = drop_of_length-le bytes {i = length bytes} (omega arith) ∙ sym (rw width (drop_of_length-le bytes long));
       inside = omega arith;
     }
 
@@ -113,7 +112,7 @@ entries_still x word is (suc n) ds =
     ap₂ (λ (w : ℤ) (l : List ℤ). w ∷ l) (is ds) (entries_still x word is n (drop (bytes_of x) ds))
 
 -- no delta, and a word of its own
-run_still : (x n : ℕ) (word : ℤ) {bytes : List ℕ} {list : List ℤ} → bytes_of x ≡ 0 → ((ds : List ℕ) → word_of x ds ≡ word)
+pub run_still : (x n : ℕ) (word : ℤ) {bytes : List ℕ} {list : List ℤ} → bytes_of x ≡ 0 → ((ds : List ℕ) → word_of x ds ≡ word)
     → list ≡ replicate n word → Filled bytes (replicate n x) 0 list
 run_still x n word {bytes} {list} none is stored =
     let nothing : width_of (replicate n x) ≡ 0 = width-run x n ∙ rw none (omega arith) in

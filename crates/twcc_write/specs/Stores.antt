@@ -18,6 +18,11 @@ pub record Begins (bytes : List ℕ) (n : ℕ) (new : List ℕ) : Type 0 where
   pub size : n ≡ length bytes
   pub front : take n new ≡ bytes
 
+-- these bytes, n of them, stand there, and the memory behind them is as it was
+pub record Stored (bytes : List ℕ) (n : ℕ) (old new : List ℕ) : Type 0 where
+  pub size : n ≡ length bytes
+  pub memory : new ≡ sets old 0 bytes
+
 -- a word with at most so many delta bytes, and room for as many
 pub record WordStorable (word : ℤ) (most : ℕ) (out : List ℕ) : Type 0 where
   pub valid : Valid word

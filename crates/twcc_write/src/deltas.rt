@@ -1,11 +1,12 @@
 // The delta bytes of a block's entries, chunk by chunk. What stores those of some words puts them at the front of the room that it
-// is lent, and tells how many they are; a byte too many is stored over by what follows. That words can be written and have room is
-// asked of list and buffer together, which are cut anew at each step, so that no type keeps it.
+// is lent, and tells how many they are: a run's words alone, those of a vector with a byte or two too many perhaps, which are stored
+// over by what follows. That words can be written and have room is asked of list and buffer together, which are cut anew at each step,
+// so that no type keeps it.
 ghost use Rattle.std.specs.Prelude.{◌≡◌, map, ◌+◌, ◌*◌, ◌-◌, ◌≤◌, ◌<◌, length, take, ◌++◌, replicate};
 ghost use Rattle.octets.specs.Big.{be_bytes};
 ghost use Rattle.octets.specs.Bounds.{Below};
 ghost use Rattle.twcc.specs.Words.{Valid, AllValid, symbol_of, bits16, delta_bytes, deltas};
-ghost use Rattle.twcc_write.specs.Stores.{Begins, WordStorable, Storable, ChunkStorable, Carriable};
+ghost use Rattle.twcc_write.specs.Stores.{Begins, Stored, WordStorable, Storable, ChunkStorable, Carriable};
 
 use twcc::{LARGE_RUNS, ONES_END, RUN_WEIGHT, RUNS_END};
 
@@ -21,7 +22,7 @@ fn two_bytes(word: i32) -> [u8; 2]
 // The delta bytes of a word, and no more.
 fn put_exact(word: i32, out: &mut [u8]) -> usize
     requires { WordStorable word (symbol_of word) out.old }
-    ensures { Begins (delta_bytes word) result out.new }
+    ensures { Stored (delta_bytes word) result out.old out.new }
 {
     let [high, low] = two_bytes(word);
     match twcc::symbol(word) {
@@ -106,11 +107,11 @@ fn put_vector<const N: usize, const MOST: usize>(words: &[i32], out: &mut [u8]) 
     }
 }
 
-// A run of words with N bytes each.
+// A run of words with N bytes each, and no more.
 #[inline(never)]
 fn put_run<const N: usize>(words: &[i32], out: &mut [u8]) -> usize
     requires { (N ≤ 2) × Storable words.now out.old × (map symbol_of words.now ≡ replicate (length words.now) N) }
-    ensures { Begins (deltas words.now) result out.new }
+    ensures { Stored (deltas words.now) result out.old out.new }
 {
     for (n, word) in words.iter().enumerate() {
         out[N * n..N * n + N].copy_from_slice(&two_bytes(*word)[2 - N..]);

@@ -14,9 +14,9 @@ loop-word-init c = none_yet _
 pub put_word-p-requires : goal.put_word-p-requires
 put_word-p-requires c =
     let fits : SFits w32 (get_or c.args.words.now c.loop-word.word-index (pos 0)) = search rules in
-    rw (to_z-of_z {w = w32} fits) (next_storable _ _ _ _ c.loop-word.invariant c.loop-word-test.true c.requires.valid (omega (arith, c.requires.room, c.loop-word.auto.out)))
+    rw (to_z-of_z {w = w32} fits) (next_storable _ _ _ _ c.loop-word.invariant.size c.loop-word-test.true c.requires.valid (omega (arith, c.requires.room, c.loop-word.auto.out)))
 
 pub loop-word-preserved : goal.loop-word-preserved
 loop-word-preserved c =
     let fits : SFits w32 (get_or c.args.words.now c.loop-word.word-index (pos 0)) = search rules in
-    next_begins _ _ _ _ c.loop-word.invariant c.loop-word-test.true _ _ _ (rw (to_z-of_z {w = w32} fits) at c.put_word-p.ensures)
+    next_begins _ _ _ _ c.loop-word.invariant.size c.loop-word-test.true _ _ _ c.loop-word.invariant (rw (to_z-of_z {w = w32} fits) at c.put_word-p.ensures)
