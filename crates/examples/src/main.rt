@@ -216,3 +216,6 @@ fn main(rt: HostRuntime) -> io::Result<()> {
     compounds(&rt)?;
     records(&rt)
 }
+
+#[cfg(test)]
+mod tests;

@@ -10,7 +10,7 @@ use Rattle.refusal.specs.Said.{said}
 use Rattle.refusal.proofs.Unique.{said_unique}
 use Rattle.refusal.specs.declared.Refusal.{Refusal}
 use Rattle.nack_store.specs.Bits.{added, removed, empty_store}
-use Rattle.nack_store.specs.Promise.{AsStore, Changed, has_number, count_numbers}
+use Rattle.nack_store.specs.Promise.{AsStore, InPlace, Changed, has_number, count_numbers}
 
 pub changed_unique : {s changed : List ℕ} {r q : Result Unit Refusal} {new other : List ℕ} → Changed s changed r new → Changed s changed q other → (r ≡ q) × (new ≡ other)
 changed_unique {s} {changed} {r} {q} a b = (said_unique r q (a.answer ∙ sym b.answer), a.store ∙ sym b.store)
@@ -36,3 +36,15 @@ sized_unique bytes (Ok a) (Ok b) x y = ap Ok (x.1 ∙ sym y.1)
 sized_unique bytes (Ok a) (Err e) x y = absurd (y.0 x.0)
 sized_unique bytes (Err e) (Ok b) x y = absurd (x.0 y.0)
 sized_unique bytes (Err e) (Err d) x y = ap Err (x.1 ∙ sym y.1)
+
+-- two answers are one refusal, or one array at one place
+pub in_place_unique : (bytes : Bor (List ℕ)) (r q : Result (Bor (List ℕ)) Refusal) → InPlace bytes r → InPlace bytes q → r ≡ q
+in_place_unique bytes (Ok a) (Ok b) x y = ap Ok (x.1 ∙ sym y.1)
+in_place_unique bytes (Ok a) (Err e) x y = absurd (y.0 x.0)
+in_place_unique bytes (Err e) (Ok b) x y = absurd (x.0 y.0)
+in_place_unique bytes (Err e) (Err d) x y = ap Err (x.1 ∙ sym y.1)
+
+-- what is said of the place says of the bytes what `AsStore` does
+pub in_place_reads : (bytes : Bor (List ℕ)) (r : Result (Bor (List ℕ)) Refusal) → InPlace bytes r → AsStore bytes.now r
+in_place_reads bytes (Ok store) x = (x.0, ap (λ (s : Bor (List ℕ)). s.now) x.1)
+in_place_reads bytes (Err r) x = x

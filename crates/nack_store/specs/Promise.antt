@@ -13,6 +13,11 @@ abbrev pub AsStore : List ℕ → Result (Bor (List ℕ)) Refusal → Type 0
 AsStore bytes (Ok store) = (length bytes ≡ store_size) × (store.now ≡ bytes)
 AsStore bytes (Err r) = (length bytes ≢ store_size) × (r ≡ StoreLength (length bytes))
 
+-- the same, right where they stand: equal bytes elsewhere would be another store
+abbrev pub InPlace : Bor (List ℕ) → Result (Bor (List ℕ)) Refusal → Type 0
+InPlace bytes (Ok store) = (length bytes.now ≡ store_size) × (store ≡ bytes)
+InPlace bytes (Err r) = AsStore bytes.now (Err r)
+
 -- an outcome that only bytes of a store's size have
 abbrev pub of_store : {A : Type 0} → List ℕ → Outcome A → Outcome A
 of_store s outcome = cond (not (eqb (length s) store_size)) (refuse 16 (length s ∷ [])) outcome

@@ -2,11 +2,11 @@
 // n / 8, bit n mod 8, bit 0 worth 1. Each call refuses bytes of another size, and then touches none of them.
 #![tactic(auto)]
 
-ghost use Rattle.std.specs.Prelude.{◌≡◌, ◌<◌};
+ghost use Rattle.std.specs.Prelude.{◌≡◌, ◌<◌, length};
 ghost use Rattle.std.specs.Int.{from_bool};
 ghost use Rattle.refusal.specs.Said.{said};
 ghost use Rattle.nack_store.specs.Bits.{with_bit, changed_bit, added, removed, empty_store};
-ghost use Rattle.nack_store.specs.Promise.{AsStore, Changed, has_number, count_numbers};
+ghost use Rattle.nack_store.specs.Promise.{InPlace, Changed, has_number, count_numbers};
 
 use kinds::Seq;
 use refusal::Refusal;
@@ -14,11 +14,22 @@ use refusal::Refusal;
 // The size of a store: a bit for each of the 65,536 numbers.
 pub const STORE: usize = 8192;
 
-// Bytes as a store, whose type says its size. Where the array stands, the library's contract does not say, so that no other crate is handed it.
-fn sized(bytes: &[u8]) -> Result<&[u8; STORE], Refusal>
-    ensures { AsStore bytes.now result }
+// Bytes as an array, right where they stand. The library's own `as_array` promises only what its array reads.
+fn in_place<const N: usize>(bytes: &[u8]) -> &[u8; N]
+    requires { length bytes.now ≡ N }
+    ensures { result ≡ bytes.entry }
 {
-    bytes.as_array().ok_or(Refusal::StoreLength(bytes.len()))
+    unsafe { &*(bytes.as_ptr() as *const [u8; N]) }
+}
+
+// Bytes as a store, whose type says its size: those bytes themselves, and no copy.
+pub fn sized(bytes: &[u8]) -> Result<&[u8; STORE], Refusal>
+    ensures { InPlace bytes.entry result }
+{
+    if bytes.len() != STORE {
+        return Err(Refusal::StoreLength(bytes.len()));
+    }
+    Ok(in_place(bytes))
 }
 
 // A byte with one bit replaced.

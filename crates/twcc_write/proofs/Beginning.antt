@@ -78,6 +78,9 @@ module _ (w : ℤ) (n : ℕ) where
   exact_bytes two copied is bits after =
       after ∙ between_to_end two (2 - n) 2 (rw bits (omega arith)) ∙ ap₂ (λ (k : ℕ) (l : List ℕ). drop (2 - k) l) is bits ∙ last_bytes w
 
+  pub exact_begins : (two copied rest : List ℕ) → n ≡ symbol_of w → two ≡ be_bytes 2 (bits16 w) → copied ≡ between (2 - n) 2 two → Begins (delta_bytes w) n (copied ++ rest)
+  exact_begins two copied rest is bits after = rw (exact_bytes two copied is bits after) (begins (delta_bytes w) rest n (omega (arith, is, length_delta w)))
+
   -- as many as words have at most, where those that are too many stand behind them
   pub one_begins : (out : List ℕ) (low : ℕ) → n ≡ symbol_of w % 2 → symbol_of w ≤ 1 → low ≡ bits16 w % 256 → 1 ≤ length out → Begins (delta_bytes w) n (set out 0 low)
   unfolding delta_bytes
